@@ -91,36 +91,36 @@ module _ {P I A : Type 0} (w : World P I A) (s : State P I A) (id node : ℕ) (q
   claims : (site : P) (run : RunId) (b : Body I A) (go : Record → Journal → Walk P I A) →
       q.status ≡ assigned node (walking (wants site run b go)) →
       (kind : ClaimKind) (next : State P I A) → step w s (Claim id run kind) ≡ Some next →
-      claimed w s id node q.origin q.journal q.runs run b go kind ≡ Some next
+      claimed w s id node q run b go kind ≡ Some next
   claims site run b go st kind next h =
       let same : same_run run run ≡ true = (run-exact run run).1 refl in
       sym (ap (λ o. and_then o (step_of w s (Claim id run kind))) there
-      ∙ (ap (λ (a : Status P I A). claim_at w s id run kind q.origin q.journal q.runs a) st
-      ∙ ap
-      (λ t.
-      and_then (only_if t run) (λ r. claimed w s id node q.origin q.journal q.runs r b go kind))
+      ∙ (ap (λ (a : Status P I A). claim_at w s id run kind q a) st
+      ∙ ap (λ t.
+      and_then (only_if t run) (λ r. claimed w s id node q r b go kind))
       same)) ∙ h
 
   -- a run that is begun, and not finished, and that needed itself then, can't be claimed
   not-claimed : (run : RunId) (b : Body I A) (go : Record → Journal → Walk P I A) →
       is_begun run s.begun ≡ true → found s.table run ≡ None →
-      is_in_cycle (waiting w s id q.origin q.journal q.runs run b go) run ≡ true →
+      is_in_cycle (waiting w s id q run b go) run ≡ true →
       (kind : ClaimKind) (next : State P I A) →
-      claimed w s id node q.origin q.journal q.runs run b go kind ≡ Some next → ⊥
-  not-claimed run b go begun none cycle Go next h = unless-none (is_begun run s.begun) _ next begun
-      h
-  not-claimed run b go begun none cycle Use next h = let y = and_then-some (found s.table run) _
-      next h in let e : None ≡ Some y.0 = sym none ∙ y.1 in cc
+      claimed w s id node q run b go kind ≡ Some next → ⊥
+  not-claimed run b go begun none cycle Go next h =
+      unless-none (is_begun run s.begun) _ next begun h
+  not-claimed run b go begun none cycle Use next h =
+      let y = and_then-some (found s.table run) _ next h in
+      let e : None ≡ Some y.0 = sym none ∙ y.1 in cc
   not-claimed run b go begun none cycle Wait next h =
       let y = only_if-some _ _ next h in
-      clash (is_in_cycle (waiting w s id q.origin q.journal q.runs run b go) run) cycle
+      clash (is_in_cycle (waiting w s id q run b go) run) cycle
       (may_wait-so w (is_begun run s.begun) (found s.table run)
-      (is_in_cycle (waiting w s id q.origin q.journal q.runs run b go) run) y.0).2
+      (is_in_cycle (waiting w s id q run b go) run) y.0).2
 
   no-wait : (site : P) (run : RunId) (b : Body I A) (go : Record → Journal → Walk P I A) →
       q.status ≡ assigned node (walking (wants site run b go)) → is_begun run s.begun ≡ true →
       found s.table run ≡ None →
-      is_in_cycle (waiting w s id q.origin q.journal q.runs run b go) run ≡ true →
+      is_in_cycle (waiting w s id q run b go) run ≡ true →
       CanGoOn w s id (walking (wants site run b go)) → ⊥
   no-wait site run b go st begun none cycle (inl x) =
       not-claimed run b go begun none cycle Go x.0 (claims site run b go st Go x.0 x.1)
@@ -138,13 +138,14 @@ module _ {P I A : Type 0} (w : World P I A) (s : State P I A) (id node : ℕ) (q
   calls-fit (within x (ends outcome)) calls st a can = absurd (cc)
   calls-fit (within x (asks key keys go)) calls st a can =
       let same : key ∷ keys ≡ calls = cc in
-      let made = sym (ap (λ o. and_then o (step_of w s (Request id (key ∷ keys)))) there ∙ ap
-      (λ (t : Status P I A). request_at w s id (key ∷ keys) q.origin q.journal q.runs t) st)
+      let called =
+      sym (ap (λ o. and_then o (step_of w s (Request id (key ∷ keys)))) there
+      ∙ ap (λ (t : Status P I A). request_at w s id (key ∷ keys) q t) st)
       ∙ can.1 in
       let fits =
       (and_both (same_keys (key ∷ keys) (key ∷ keys))
       (is_within_limits w s (x.run ∷ q.origin.path) (key ∷ keys))
-      (only_if-some _ _ can.0 made).0).1 in
+      (only_if-some _ _ can.0 called).0).1 in
       (x.run, ap (is_within_limits w s (x.run ∷ q.origin.path)) (sym same) ∙ fits)
 
 module _ {P I A : Type 0} (w : World P I A) (s : State P I A) where

@@ -31,22 +31,23 @@ module _ {P I A : Type 0} (w : World P I A) (out : Given P I RequestResult) (who
       → IsOutcomeAt w low events end outcome → outcome ≡ built low out.value out.journal
   meant events None outcome h = absurd h
   meant events (Some (Root result)) outcome h = built-meant events result outcome h
-  meant events (Some (Circular runs)) outcome h = absurd
-      (no-circles w out whole steady events runs h.0)
-  meant events (Some (TooDeep keys)) outcome h = absurd
-      (never-deep w out whole steady events keys h.0)
-  meant events (Some (TooMany instance)) outcome h = absurd
-      (never-many w out whole steady events instance h.0)
+  meant events (Some (Circular runs)) outcome h =
+      absurd (no-circles w out whole steady events runs h.0)
+  meant events (Some (TooDeep keys)) outcome h =
+      absurd (never-deep w out whole steady events keys h.0)
+  meant events (Some (TooMany instance)) outcome h =
+      absurd (never-many w out whole steady events instance h.0)
   meant events (Some NoMemory) outcome h = absurd h
 
 pub outcome_is_the_meanings : {P I A : Type 0} (w : World P I A) (out : Given P I RequestResult) →
     IsWhole w out → IsSteady out.demand → (low : Bool) (outcome : Outcome) →
     IsOutcome w low outcome → outcome ≡ built low out.value out.journal
-outcome_is_the_meanings w out whole steady low outcome x = meant w out whole steady low x.events
-    x.end outcome x.is
+outcome_is_the_meanings w out whole steady low outcome x =
+    meant w out whole steady low x.events x.end outcome x.is
 
 pub outcomes_agree : {P I A : Type 0} (w : World P I A) (out : Given P I RequestResult) →
     IsWhole w out → IsSteady out.demand → (low : Bool) (one other : Outcome) → IsOutcome w low one →
     IsOutcome w low other → one ≡ other
-outcomes_agree w out whole steady low one other x y = outcome_is_the_meanings w out whole steady low
-    one x ∙ sym (outcome_is_the_meanings w out whole steady low other y)
+outcomes_agree w out whole steady low one other x y =
+    outcome_is_the_meanings w out whole steady low one x
+    ∙ sym (outcome_is_the_meanings w out whole steady low other y)

@@ -29,7 +29,7 @@ use Rattle.build_scheduler.specs.declared.slot.Slot.{Slot}
 use Rattle.build_scheduler.specs.declared.slot.End.{End}
 use Rattle.build_scheduler.specs.declared.slot.End.TheVariants.{Root}
 use Rattle.build_scheduler.specs.Ends.{IsRootOver, IsEnd}
-use Rattle.build_scheduler.specs.Log.{Logged}
+use Rattle.build_scheduler.specs.History.{History}
 use Rattle.build_scheduler.specs.Own.{Seen}
 use Rattle.build_scheduler.specs.Shown.{Shown}
 use Rattle.build_scheduler.proofs.HistoryFacts.{some-prop, one_state}
@@ -41,12 +41,12 @@ over : {P I A : Type 0} (w : World P I A) (events : List Event)
     ∥ IsRootOver w events result ∥₁
 over w events result e told = subst (λ o. IsEnd w events o) (sym e) told
 
-module _ {W P I A : Type 0} (seen : W → Seen P I A)
-    (w : World P I A) {log : Logged} {origins : List Origin} {slots : List (Slot W)} {making : List
-    (Option RunId)} {table : TableRuns} {end : Option End} (result : RequestResult) where
+module _ {W P I A : Type 0} (seen : W → Seen P I A) (w : World P I A) {log : History}
+    {origins : List Origin} {slots : List (Slot W)} {making : List (Option RunId)}
+    {table : TableRuns} {end : Option End} (result : RequestResult) where
   over-replayed : Shown seen w log origins slots making table end
-      → (x : IsRootOver w log.events result) → replay_all table.finished result.runs []
-      ≡ Some x.journal
+      → (x : IsRootOver w log.events result)
+      → replay_all table.finished result.runs [] ≡ Some x.journal
   over-replayed s x =
       let same : s.state ≡ x.state = one_state w log.events s.state x.state s.history x.history in
       ap (λ finished. replay_all finished result.runs [])
@@ -63,11 +63,12 @@ module _ {W P I A : Type 0} (seen : W → Seen P I A)
 
   pub root-outcome : (low : Bool) (outcome : Outcome)
       → ∥ Shown seen w log origins slots making table end ∥₁ → Some (Root result) ≡ end
-      → IsEnd w log.events end →
-      IfSome (replay_all table.finished result.runs [])
+      → IsEnd w log.events end
+      → IfSome (replay_all table.finished result.runs [])
       (λ journal. outcome ≡ built low result journal)
       → ∥ IsOutcomeAt w low log.events end outcome ∥₁
-  root-outcome low outcome legal e told h = ∥∥₁_map₂ legal (over w log.events result e told)
+  root-outcome low outcome legal e told h =
+      ∥∥₁_map₂ legal (over w log.events result e told)
       (λ s x. subst (λ o. IsOutcomeAt w low log.events o outcome) e (record {
         state = x.state;
         journal = x.journal;

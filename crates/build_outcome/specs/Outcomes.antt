@@ -1,6 +1,7 @@
 -- What comes of a build: its status, what is printed, what is done to files, and how many runs have
 -- ended in it. (MSBuild command-line reference)
 use Rattle.std.specs.Prelude.{◌≡◌, ◌⊎◌, ℕ, Bool, true, false, List, [], Option, None, Some}
+use Rattle.msb_laws.specs.Words.{Text}
 use Rattle.result_cache.specs.declared.request.RequestResult.{RequestResult}
 use Rattle.result_cache.specs.Journal.{Journal}
 use Rattle.msb_files.specs.FinalTree.{commit_list}
@@ -41,11 +42,11 @@ built low result journal = record {
 }
 
 -- what is told of no build: this text is printed, and nothing is done to files
-abbrev pub of_text : ℕ → List ℕ → Outcome
+abbrev pub of_text : ℕ → Text → Outcome
 of_text status text = record { status = status; text = text; commit = []; runs = 0 }
 
 -- what comes of a build that is stopped, where this text says why
-abbrev pub stopped : List ℕ → Outcome
+abbrev pub stopped : Text → Outcome
 stopped text = of_text 4 text
 
 -- after these events the root request is over with this result, and this comes of it
@@ -58,13 +59,13 @@ pub record IsBuilt {P I A : Type 0} (w : World P I A) (low : Bool) (events : Lis
   pub outcome_is : outcome ≡ built low result journal
 
 -- after these events the build is stopped by this end, and this text says why
-abbrev pub IsStopped : {P I A : Type 0} → World P I A → List Event → End → List ℕ → Outcome → Type 0
+abbrev pub IsStopped : {P I A : Type 0} → World P I A → List Event → End → Text → Outcome → Type 0
 IsStopped w events end text outcome = IsStop w events end × (outcome ≡ stopped text)
 
 -- what comes of a build that ends so after these events; nothing comes of one that goes on, or that
 -- wants memory
-abbrev pub IsOutcomeAt : {P I A : Type 0} → World P I A → Bool → List Event → Option End → Outcome →
-    Type 0
+abbrev pub IsOutcomeAt : {P I A : Type 0} →
+    World P I A → Bool → List Event → Option End → Outcome → Type 0
 IsOutcomeAt w low events None outcome = ⊥
 IsOutcomeAt w low events (Some (Root result)) outcome = IsBuilt w low events result outcome
 IsOutcomeAt w low events (Some (Circular runs)) outcome =

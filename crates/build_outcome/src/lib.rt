@@ -7,7 +7,7 @@
 
 mod counted;
 mod outcome;
-mod replayed;
+mod replay;
 mod steady;
 
 pub use outcome::Outcome;

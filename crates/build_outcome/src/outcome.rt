@@ -10,8 +10,8 @@ ghost use Rattle.build_outcome.specs.Outcomes.{
 };
 
 use crate::counted::runs_in;
-use crate::replayed::replayed;
-use build_report::{shown, shown_circular, shown_too_deep, shown_too_many};
+use crate::replay::replay_runs;
+use build_report::{show_build, show_circular, show_too_deep, show_too_many};
 use build_scheduler::{Core, End, Walker};
 use msb_values::{Act, List, NoMemory, Text8};
 use result_cache::{RequestResult, Table};
@@ -52,10 +52,10 @@ impl Outcome {
         ensures status { IfOk result (λ outcome. IsStatus outcome.status) }
     {
         match core.end() {
-            Some(End::Root(root)) => built(alloc, core.table(), root, low),
-            Some(End::Circular(runs)) => Ok(stopped(alloc, shown_circular(alloc, runs)?)),
-            Some(End::TooDeep(keys)) => Ok(stopped(alloc, shown_too_deep(alloc, keys)?)),
-            Some(End::TooMany(instance)) => Ok(stopped(alloc, shown_too_many(alloc, instance)?)),
+            Some(End::Root(root)) => Outcome::of_root(alloc, core.table(), root, low),
+            Some(End::Circular(runs)) => Ok(Outcome::of_stop(alloc, show_circular(alloc, runs)?)),
+            Some(End::TooDeep(keys)) => Ok(Outcome::of_stop(alloc, show_too_deep(alloc, keys)?)),
+            Some(End::TooMany(key)) => Ok(Outcome::of_stop(alloc, show_too_many(alloc, key)?)),
             Some(End::NoMemory) => Err(NoMemory),
             None => unreachable!(),
         }
@@ -72,23 +72,35 @@ impl Outcome {
             runs: 0,
         }
     }
-}
 
-/// The outcome of a build whose root request is over, with this result.
-fn built(alloc: Global, table: &Table, root: &RequestResult, low: bool) -> Result<Outcome, NoMemory>
-    requires { IsSome (replay_all table.now.finished root.now.runs []) }
-    ensures outcome { IfOk result (λ outcome.
-        IfSome (replay_all table.now.finished root.now.runs [])
-        (λ journal. outcome ≡ built low root.now journal)) }
-    ensures status { IfOk result (λ outcome. IsStatus outcome.status) }
-{
-    let journal = replayed(alloc, table, root.runs.as_slice())?;
-    Ok(Outcome {
-        status: status_of(root.ok),
-        text: shown(alloc, root, &journal, low)?,
-        commit: journal.commit_list(alloc)?,
-        runs: runs_in(&journal),
-    })
+    // The outcome of a build whose root request is over, with this result.
+    fn of_root(
+        alloc: Global,
+        table: &Table,
+        root: &RequestResult,
+        low: bool,
+    ) -> Result<Outcome, NoMemory>
+        requires { IsSome (replay_all table.now.finished root.now.runs []) }
+        ensures outcome { IfOk result (λ outcome.
+            IfSome (replay_all table.now.finished root.now.runs [])
+            (λ journal. outcome ≡ built low root.now journal)) }
+        ensures status { IfOk result (λ outcome. IsStatus outcome.status) }
+    {
+        let journal = replay_runs(alloc, table, root.runs.as_slice())?;
+        Ok(Outcome {
+            status: status_of(root.ok),
+            text: show_build(alloc, root, &journal, low)?,
+            commit: journal.commit_list(alloc)?,
+            runs: runs_in(&journal),
+        })
+    }
+
+    // The outcome of a build that was stopped: nothing is written or removed.
+    fn of_stop(alloc: Global, text: Text8) -> Outcome
+        ensures { result ≡ stopped text }
+    {
+        Outcome::of_text(alloc, 4, text)
+    }
 }
 
 fn status_of(ok: bool) -> u8
@@ -96,11 +108,4 @@ fn status_of(ok: bool) -> u8
     ensures status { IsStatus result }
 {
     if ok { 0 } else { 1 }
-}
-
-/// The outcome of a build that was stopped: nothing is written or removed.
-fn stopped(alloc: Global, text: Text8) -> Outcome
-    ensures { result ≡ stopped text }
-{
-    Outcome::of_text(alloc, 4, text)
 }

@@ -97,7 +97,8 @@ module _ (tools : List ℕ → ToolInput → ToolAnswer) (stamp : ℕ) where
 
   -- what the root request gives by its walk
   abbrev given_by : Walk Site ToolInput ToolAnswer → Option (Given Site ToolInput RequestResult)
-  given_by root_walk = containing (requested root)
+  given_by root_walk =
+      containing (requested root)
       (walk (world_of tools (build stamp)) (request (world_of tools (build stamp)) 127) []
       root_walk [] [])
 
@@ -170,7 +171,8 @@ is-asked stamp =
 
 work-so : (stamp : ℕ) →
     IsWorkAt options (files stamp) (normal_path [] project) (Build (build stamp))
-work-so stamp = subst (λ (evaluates_to : Result Instance EvalFault).
+work-so stamp =
+    subst (λ (evaluates_to : Result Instance EvalFault).
     IsWorkOfInstance options (key_at project options) (files stamp) evaluates_to
     (Build (build stamp))) (sym (evaluates stamp)) (is-asked stamp)
 

@@ -69,8 +69,8 @@ abbrev message_json : Json
 message_json = named (codes "Message") (with_attribute (codes "Text") (codes "hi") no_members)
 
 abbrev target_json : Json
-target_json = named (codes "Target")
-    (with_attribute (codes "Name") (codes "Build") (with_child message_json))
+target_json =
+    named (codes "Target") (with_attribute (codes "Name") (codes "Build") (with_child message_json))
 
 abbrev project_json : Json
 project_json = named (codes "Project") (with_child target_json)
@@ -85,7 +85,8 @@ numbers : HasNumbers project_json
 numbers = search
 
 tokens-so : tokens project_bytes ≡ json_tokens project_json ++ []
-tokens-so = ap tokens (sym written)
+tokens-so =
+    ap tokens (sym written)
     ∙ (tokens-print (json_tokens project_json) (ArePrintable-json_tokens project_json numbers)
     ∙ sym (append-nil (json_tokens project_json)))
 
@@ -93,7 +94,8 @@ abbrev last_of : Option (Json × List Token) → Option Data
 last_of found = option_and_then of_json (option_and_then (λ p. if_last p.0 p.1) found)
 
 read-so : read project_bytes ≡ of_json project_json
-read-so = ap (λ ts. last_of (value max_depth ts)) tokens-so
+read-so =
+    ap (λ ts. last_of (value max_depth ts)) tokens-so
     ∙ ap last_of (value-json_tokens project_json max_depth [] (omega arith))
 
 utf8-so : is_utf8 project_bytes ≡ true
@@ -109,7 +111,8 @@ tree-so = refl
 
 reads-so : root_or_fault (json_in project_bytes) ≡ Ok project_element
 unfolding json_in
-reads-so = ap (λ (b : Bool). root_or_fault (if b then read project_bytes else None)) utf8-so
+reads-so =
+    ap (λ (b : Bool). root_or_fault (if b then read project_bytes else None)) utf8-so
     ∙ (ap root_or_fault read-so ∙ tree-so)
 
 project-so : project_in project_bytes ≡ Ok project_element

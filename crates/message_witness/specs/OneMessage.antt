@@ -1,5 +1,6 @@
 -- A worked project: one target with one Message. (MSBuild project file schema; Message task)
 use Rattle.std.specs.Prelude.{ℕ, false, true, List, [], ◌∷◌, ◌++◌, None, Some, codes, refl}
+use Rattle.msb_laws.specs.Words.{Path, Text}
 use Rattle.msb_values.specs.declared.mode.Mode.TheVariants.{Incremental}
 use Rattle.msb_values.specs.declared.note.Note.TheVariants.{Message}
 use Rattle.msb_values.specs.declared.scope.Scope.{Scope}
@@ -22,14 +23,15 @@ use Rattle.request_machine.specs.Walk.{Site}
 
 -- ---- the project's file, the one file that there is
 
-abbrev pub project : List ℕ
+abbrev pub project : Path
 project = codes "a.proj"
 
-abbrev pub target_text : List ℕ
-target_text = codes "{\"e\":\"Target\",\"a\":{\"Name\":\"Build\"},\"c\":["
+abbrev pub target_text : Text
+target_text =
+    codes "{\"e\":\"Target\",\"a\":{\"Name\":\"Build\"},\"c\":["
     ++ codes "{\"e\":\"Message\",\"a\":{\"Text\":\"hi\"}}]}"
 
-abbrev pub project_bytes : List ℕ
+abbrev pub project_bytes : Text
 project_bytes = codes "{\"e\":\"Project\",\"c\":[" ++ target_text ++ codes "]}"
 
 abbrev pub files : ℕ → List File
@@ -58,7 +60,8 @@ abbrev pub message_element : Node
 message_element = node (0 ∷ 0 ∷ []) (codes "Message") ((codes "Text", codes "hi") ∷ []) [] no_nodes
 
 abbrev pub target_element : Node
-target_element = node (0 ∷ []) (codes "Target") ((codes "Name", codes "Build") ∷ []) []
+target_element =
+    node (0 ∷ []) (codes "Target") ((codes "Name", codes "Build") ∷ []) []
     (more message_element no_nodes)
 
 abbrev pub target : UsedTarget
@@ -122,8 +125,9 @@ given = record {
 
 -- ---- what is printed
 
-abbrev pub printed : List ℕ
-printed = line (codes "a.proj : build ran") ++ line (codes "  hi") ++ line (codes "returned 0")
+abbrev pub printed : Text
+printed =
+    line (codes "a.proj : build ran") ++ line (codes "  hi") ++ line (codes "returned 0")
     ++ line (codes "build succeeded")
 
 abbrev pub outcome : Outcome

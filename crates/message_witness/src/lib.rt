@@ -2,12 +2,11 @@
 //! is printed, by the definitions alone. (MSBuild project file schema; Message task.)
 #![tactic(auto)]
 
-ghost use Rattle.std.specs.Prelude.{◌≡◌, ◌∷◌, ℕ, List, [], false, Some, codes};
+ghost use Rattle.std.specs.Prelude.{◌≡◌, ◌∷◌, ℕ, [], false, Some, codes};
 ghost use Rattle.build_meaning.specs.Meaning.{meaning};
 ghost use Rattle.build_report.specs.Shown.{shown_text};
-ghost use Rattle.task_trait.specs.declared.tools.ToolAnswer.{ToolAnswer};
-ghost use Rattle.task_trait.specs.declared.tools.ToolInput.{ToolInput};
 ghost use Rattle.request_machine.specs.Worlds.{world_of};
+ghost use Rattle.msb_outcomes.specs.Outcomes.{Answering};
 ghost use Rattle.msb_program.specs.Meanings.{Means};
 ghost use Rattle.message_witness.specs.OneMessage.{
   build,
@@ -25,9 +24,9 @@ ghost use Rattle.message_witness.specs.OneMessage.{
 /// memory is found and neither the store nor the sink fails. (Message task; MSBuild command-line
 /// reference.)
 pub fn one_message_is_printed()
-    ensures meaning { (tools : List ℕ → ToolInput → ToolAnswer) (stamp : ℕ) →
+    ensures meaning { (tools : Answering) (stamp : ℕ) →
         meaning (world_of tools (build stamp)) ≡ Some given }
     ensures text { shown_text root_result journal false ≡ printed }
-    ensures words { (tools : List ℕ → ToolInput → ToolAnswer) (stamp : ℕ) →
+    ensures words { (tools : Answering) (stamp : ℕ) →
         Means tools (codes "build" ∷ codes "a.proj" ∷ []) (Some (files stamp)) outcome }
 {}

@@ -13,7 +13,8 @@ use Rattle.build_outcome.specs.declared.outcome.Outcome.{Outcome}
 use Rattle.msb_outcomes.specs.Trials.{AreEqual}
 
 put-exact : (a b : Put) → Decides (same_put a b) (a ≡ b)
-put-exact a b = into (same_put a b)
+put-exact a b =
+    into (same_put a b)
     (λ h. ap (λ x. record { path = x; bytes = a.bytes }) h.0
     ∙ ap (λ y. record { path = b.path; bytes = y }) h.1)
     (λ h. (ap (λ (x : Put). x.path) h, ap (λ (x : Put). x.bytes) h))

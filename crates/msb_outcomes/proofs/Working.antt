@@ -197,8 +197,8 @@ pub refused_work : (options : Options) (key : InstanceKey) (files : List File) (
     → UnlessMemory fault.cause (evaluated files key ≡ Err fault)
     → IfOk made (λ work. work ≡ Told (refused (fault_text fault)))
     → IfOk made (λ _. fault.cause ≢ Memory) → IfOk made (IsWorkOfFile options key files file)
-refused_work options key files None there fault made given is never = absurd
-    (true≢false (sym there))
+refused_work options key files None there fault made given is never =
+    absurd (true≢false (sym there))
 refused_work options key files (Some file) there fault (Err none) given is never = tt
 refused_work options key files (Some file) there fault (Ok work) given is never =
     subst (λ (result : Result Instance EvalFault). IsWorkOfInstance options key files result work)

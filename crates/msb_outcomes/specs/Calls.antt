@@ -1,5 +1,6 @@
 -- Which tools what comes of the work calls. (Task element)
-use Rattle.std.specs.Prelude.{ℕ, List, Bool, map}
+use Rattle.std.specs.Prelude.{List, Bool, map}
+use Rattle.msb_laws.specs.Words.{Name}
 use Rattle.task_trait.specs.declared.tools.ToolInput.{ToolInput}
 use Rattle.build_meaning.specs.SoFar.{ToolUse}
 use Rattle.build_outcome.specs.declared.outcome.Outcome.{Outcome}
@@ -11,7 +12,7 @@ use Rattle.msb_outcomes.specs.declared.work.Work.TheVariants.{Told, Build, Check
 
 -- a list of calls, by their names and what the tools were handed
 abbrev pub Called : Type 0
-Called = List (List ℕ × ToolInput)
+Called = List (Name × ToolInput)
 
 -- the calls as the meaning says them
 abbrev pub as_uses : Called → List (ToolUse ToolInput)

@@ -1,6 +1,7 @@
 -- What comes of a check: what is printed by its verdict, and the status. (MSBuild command-line
 -- reference; Building projects in parallel)
-use Rattle.std.specs.Prelude.{ℕ, List}
+use Rattle.std.specs.Prelude.{ℕ}
+use Rattle.msb_laws.specs.Words.{Text}
 use Rattle.build_report.specs.Checked.{
   steady_text,
   differs_text,
@@ -22,7 +23,7 @@ use Rattle.build_steady.specs.declared.verdict.Verdict.TheVariants.{
 }
 
 -- what is printed of each verdict
-abbrev pub verdict_text : Verdict → List ℕ
+abbrev pub verdict_text : Verdict → Text
 verdict_text (Steady bodies) = steady_text bodies
 verdict_text (Differs run first other) = differs_text run first other
 verdict_text (Circular run) = circular_run_text run

@@ -19,6 +19,7 @@ use Rattle.std.specs.Prelude.{
   codes,
 }
 use Rattle.std.specs.Fmt.{decimal}
+use Rattle.msb_laws.specs.Words.{Name, Path, Text}
 use Rattle.msb_values.specs.declared.key.InstanceKey.{InstanceKey}
 use Rattle.msb_values.specs.declared.mode.Mode.{Mode}
 use Rattle.msb_values.specs.declared.mode.Mode.TheVariants.{Incremental, Clean}
@@ -66,14 +67,14 @@ use Rattle.msb_words.specs.declared.options.Action.TheVariants.{
 }
 
 -- a project that is refused for this reason
-abbrev pub refused : List ℕ → Outcome
+abbrev pub refused : Text → Outcome
 refused reason = of_text 3 (line (codes "project refused") ++ line (codes "  " ++ reason))
 
-abbrev pub not_found : List ℕ → Outcome
+abbrev pub not_found : Text → Outcome
 not_found word = refused (word ++ codes ": not found")
 
 -- what was asked for is shown
-abbrev pub shown : List ℕ → Outcome
+abbrev pub shown : Text → Outcome
 shown text = of_text 0 text
 
 -- the words ask for a project, and not for a trial
@@ -95,11 +96,11 @@ pub record IsAsked (options : Options) (key : InstanceKey) (files : List File)
   pub mode : given.mode ≡ mode_of options.clean
 
 -- the project at a path, with the global properties of the words
-abbrev pub key_at : List ℕ → Options → InstanceKey
+abbrev pub key_at : Path → Options → InstanceKey
 key_at path options = record { path = path; globals = options.globals }
 
 -- how a load failed, or which limit the listing passes
-abbrev pub load_fault_text : LoadFault → List ℕ
+abbrev pub load_fault_text : LoadFault → Text
 load_fault_text Listing = codes "store fault"
 load_fault_text (Reading path) = codes "store fault " ++ path
 load_fault_text (Files number) = codes "too large: " ++ decimal number ++ codes " files"
@@ -124,7 +125,7 @@ unloaded fault = of_text (fault_status fault) (line (load_fault_text fault))
 
 -- how tools answer, by their names and what they are handed
 abbrev pub Answering : Type 0
-Answering = List ℕ → ToolInput → ToolAnswer
+Answering = Name → ToolInput → ToolAnswer
 
 -- what is given is built
 abbrev pub IsBuildOf : Options → InstanceKey → List File → Work → Type 0
@@ -148,8 +149,8 @@ IsWorkOfAction Targets options key files instance work =
     work ≡ Told (shown (targets_text instance.rows instance.initial instance.default))
 IsWorkOfAction Trial options key files instance work = ⊥
 
-abbrev pub IsWorkOfInstance : Options → InstanceKey → List File → Result Instance EvalFault → Work →
-    Type 0
+abbrev pub IsWorkOfInstance :
+    Options → InstanceKey → List File → Result Instance EvalFault → Work → Type 0
 IsWorkOfInstance options key files (Ok instance) work =
     IsWorkOfAction options.action options key files instance work
 IsWorkOfInstance options key files (Err fault) work = work ≡ Told (refused (fault_text fault))
@@ -160,7 +161,7 @@ IsWorkOfFile options key files (Some file) work =
     IsWorkOfInstance options key files (evaluated files key) work
 
 -- the project's file is the one at the normal path that the word gives from the root of the store
-abbrev pub IsWorkAt : Options → List File → Result (List ℕ) NormalFault → Work → Type 0
+abbrev pub IsWorkAt : Options → List File → Result Path NormalFault → Work → Type 0
 IsWorkAt options files (Ok path) work =
     IsWorkOfFile options (key_at path options) files (file_at path files) work
 IsWorkAt options files (Err fault) work = work ≡ Told (not_found options.project)
@@ -189,7 +190,7 @@ module _ (tools : Answering) where
   ComesOf low (Build given) outcome = ∥ IsOutcome (world_of tools given) low outcome ∥₁
   ComesOf low (Check given) outcome = outcome ≡ checked (verdict_of (world_of tools given))
 
-  abbrev pub IsOutcomeAt : Options → List File → Result (List ℕ) NormalFault → Outcome → Type 0
+  abbrev pub IsOutcomeAt : Options → List File → Result Path NormalFault → Outcome → Type 0
   IsOutcomeAt options files path outcome =
       (work : Work) × IsWorkAt options files path work × ComesOf options.low work outcome
 

@@ -4,6 +4,7 @@ use Rattle.std.specs.Prelude.{◌≡◌, ℕ, List, [], ◌++◌, length, Bool, 
 use Rattle.std.specs.Bool.{Decides}
 use Rattle.std.specs.Fmt.{decimal}
 use Rattle.std.specs.List.{sum_by}
+use Rattle.msb_laws.specs.Words.{Text}
 use Rattle.msb_values.specs.declared.mode.Mode.TheVariants.{Incremental}
 use Rattle.msb_values.specs.declared.act.Act.{Act}
 use Rattle.task_trait.specs.Tools.{act_size}
@@ -39,18 +40,18 @@ abbrev pub bytes_in : List Act → ℕ
 bytes_in acts = sum_by act_size acts
 
 -- what the words ask for
-abbrev pub first_line : Options → List ℕ
+abbrev pub first_line : Options → Text
 first_line options =
     line (codes "trial " ++ decimal options.seed ++ codes " size " ++ decimal options.size
     ++ codes " nodes " ++ decimal options.nodes)
 
 -- whether both builds are equal
-abbrev pub last_line : Bool → List ℕ
+abbrev pub last_line : Bool → Text
 last_line true = line (codes "equal")
 last_line false = line (codes "different")
 
 -- the five lines of a trial; the counts are those of the first build
-abbrev pub trial_text : Options → Outcome → Bool → List ℕ
+abbrev pub trial_text : Options → Outcome → Bool → Text
 trial_text options one equal =
     first_line options
     ++ line (codes "runs " ++ decimal one.runs)
@@ -58,19 +59,20 @@ trial_text options one equal =
     ++ line (codes "bytes " ++ decimal (bytes_in one.commit))
     ++ last_line equal
 
--- what is told of two builds: the last line is `equal` exactly where they print
--- the same and do the same to files
-pub record IsTold (options : Options) (one other : Outcome) (text : List ℕ) : Type 0 where
+-- what is printed of two builds: the last line is `equal` exactly where they print the same and do
+-- the same to files
+pub record IsComparison (options : Options) (one other : Outcome) (text : Text) : Type 0 where
   pub equal : Bool
   pub decides : Decides equal (AreEqual one other)
-  pub told : text ≡ trial_text options one equal
+  pub text_is : text ≡ trial_text options one equal
 
--- what a trial may print: what is told of the set's build on one node, and of an outcome of the set
-pub record IsTrial (options : Options) (text : List ℕ) : Type 0 where
+-- what a trial may print: what is printed of the set's build on one node and of an outcome of the
+-- set
+pub record IsTrial (options : Options) (text : Text) : Type 0 where
   pub given : Given
   pub set : IsSetOf options given
   pub one : Outcome
   pub first : ∥ IsOutcomeOnOne (world_of no_tools given) false one ∥₁
   pub other : Outcome
   pub second : ∥ IsOutcome (world_of no_tools given) false other ∥₁
-  pub told : IsTold options one other text
+  pub compares : IsComparison options one other text

@@ -9,35 +9,18 @@ ghost use Rattle.build_engine.specs.Statuses.{IsCompletion, IsRefusal};
 ghost use Rattle.build_engine.specs.UsedFor.{IsUsedFor};
 ghost use Rattle.msb_outcomes.specs.Calls.{as_uses};
 
-use crate::world_with_instances::WorldWithInstances;
 use build_engine::build_on_one;
 use build_outcome::Outcome;
 use build_world::World;
 use msb_instance::Instances;
 use msb_values::NoMemory;
-use request_machine::{Site, Walk, root_key};
+use request_machine::{NodeContext, Walk, root_key};
 use std::alloc::Global;
 use task_trait::CountedTools;
 
-/// What is given is built on one node. The tools are called as the build's history has it.
-pub fn built<T: CountedTools>(
-    alloc: Global,
-    low: bool,
-    given: WorldWithInstances,
-    tools: &mut T,
-) -> Result<Outcome, NoMemory>
-    ensures outcome { IfOk result (λ o. ∥ IsOutcome (world_of T.answer given) low o ∥₁) }
-    ensures status { IfOk result (λ o. IsCompletion o.status ⊎ IsRefusal o.status) }
-    ensures used { IfOk result (λ o. ∥ IsUsedFor (world_of T.answer given) low o
-        (as_uses (T.calls tools.old)) (as_uses (T.calls tools.new)) ∥₁) }
-    ensures begun { BeginsWith (T.calls tools.old) (T.calls tools.new) }
-{
-    let (world, instances) = given.parts();
-    built_with(alloc, low, &world, instances, tools)
-}
-
-/// The same, where the one node begins with these instances.
-pub fn built_with<'a, T: CountedTools + 'a>(
+/// Builds a world on one node, which begins with these instances. The tools are called as the
+/// build's history has it.
+pub fn build_world_alone<'a, T: CountedTools + 'a>(
     alloc: Global,
     low: bool,
     world: &'a World,
@@ -53,12 +36,12 @@ pub fn built_with<'a, T: CountedTools + 'a>(
 {
     let key = root_key(world)?;
     let walk = Walk::start(alloc, world)?;
-    let mut site = Site {
+    let mut context = NodeContext {
         world,
         tools: &mut *tools,
         instances,
     };
-    let outcome = build_on_one(alloc, key, walk, &mut site, low);
-    let _lent = site.into_tools();
+    let outcome = build_on_one(alloc, key, walk, &mut context, low);
+    let _lent = context.into_tools();
     outcome
 }

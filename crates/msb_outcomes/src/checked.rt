@@ -11,16 +11,16 @@ ghost use Rattle.msb_outcomes.specs.Outcomes.{IsUnfinished};
 use crate::world_with_instances::WorldWithInstances;
 use build_outcome::Outcome;
 use build_report::{
-    shown_circular_run, shown_crowding_instance, shown_deep_instance, shown_differs, shown_spent,
-    shown_steady,
+    show_circular_run, show_crowding_instance, show_deep_instance, show_differs, show_spent,
+    show_steady,
 };
 use build_steady::{Verdict, check};
 use msb_values::{NoMemory, Text8};
 use std::alloc::Global;
 use task_trait::CountedTools;
 
-/// What is given is checked: its verdict is told, and no file is written.
-pub fn checked<T: CountedTools>(
+/// Checks what is given: its verdict is told, and no file is written.
+pub fn check_world<T: CountedTools>(
     alloc: Global,
     given: WorldWithInstances,
     tools: &mut T,
@@ -60,13 +60,13 @@ fn text_of(alloc: Global, verdict: &Verdict) -> Result<Text8, NoMemory>
     ensures { IfOk result (λ t. t ≡ verdict_text verdict.now) }
 {
     match verdict {
-        Verdict::Steady(bodies) => shown_steady(alloc, *bodies),
+        Verdict::Steady(bodies) => show_steady(alloc, *bodies),
         Verdict::Differs(run, first, other) => {
-            shown_differs(alloc, run, first.get(), other.get())
+            show_differs(alloc, run, first.get(), other.get())
         }
-        Verdict::Circular(run) => shown_circular_run(alloc, run),
-        Verdict::TooDeep(instance) => shown_deep_instance(alloc, instance),
-        Verdict::TooMany(instance) => shown_crowding_instance(alloc, instance),
-        Verdict::Spent(bodies) => shown_spent(alloc, *bodies),
+        Verdict::Circular(run) => show_circular_run(alloc, run),
+        Verdict::TooDeep(instance) => show_deep_instance(alloc, instance),
+        Verdict::TooMany(instance) => show_crowding_instance(alloc, instance),
+        Verdict::Spent(bodies) => show_spent(alloc, *bodies),
     }
 }

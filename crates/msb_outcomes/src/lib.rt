@@ -13,7 +13,7 @@ mod trial;
 mod work;
 mod world_with_instances;
 
-pub use on_nodes::sites_of;
+pub use on_nodes::contexts_of;
 pub use outcome::{outcome_alone, outcome_on};
 pub use trial::{trial_alone, trial_on};
 pub use work::{Work, work_within};

@@ -3,28 +3,28 @@
 ghost use Rattle.std.specs.Prelude.{◌≡◌, ◌⊎◌, ◌<◌, ◌≤◌, All, IfOk, vec_len};
 ghost use Rattle.build_outcome.specs.Outcomes.{IsOutcome};
 ghost use Rattle.msb_instance.specs.Kept.{AreEvaluated};
-ghost use Rattle.request_machine.specs.Sites.{Suits};
+ghost use Rattle.request_machine.specs.NodeContexts.{Suits};
 ghost use Rattle.request_machine.specs.Worlds.{world_of};
 ghost use Rattle.build_engine.specs.OnNodes.{IsOutcomeOn};
 ghost use Rattle.build_engine.specs.Statuses.{IsCompletion, IsRefusal};
 
-use crate::alone::built;
+use crate::alone::build_world_alone;
 use crate::world_with_instances::WorldWithInstances;
 use build_engine::build_on_many;
 use build_outcome::Outcome;
 use build_world::World;
 use msb_instance::Instances;
 use msb_values::NoMemory;
-use request_machine::{Site, Walk, root_key};
+use request_machine::{NodeContext, Walk, root_key};
 use std::alloc::Global;
 use std::mem;
 use std::sync::Wait;
 use std::thread::Threads;
 use task_trait::{Counted, CountedTools, Tools};
 
-/// What is given is built on up to so many nodes, each in a thread of its own, as there is work for
+/// Builds what is given on up to so many nodes, each in a thread of its own, as there is work for
 /// them. They share tools, which each of them counts by itself. One node needs no thread.
-pub fn built_on<R: Threads + Wait + Sync, T: Tools + Sync>(
+pub fn build_world_on<R: Threads + Wait + Sync, T: Tools + Sync>(
     rt: &R,
     alloc: Global,
     low: bool,
@@ -38,64 +38,64 @@ pub fn built_on<R: Threads + Wait + Sync, T: Tools + Sync>(
         ∥ IsOutcomeOn (world_of T.answer given) nodes low o ∥₁) }
     ensures status { IfOk result (λ o. IsCompletion o.status ⊎ IsRefusal o.status) }
 {
+    let (world, instances) = given.parts();
     if nodes == 1 {
         let mut own = Counted::new(alloc, tools)?;
-        return built(alloc, low, given, &mut own);
+        return build_world_alone(alloc, low, &world, instances, &mut own);
     }
-    let (world, instances) = given.parts();
-    let mut counted = counted(alloc, nodes, tools)?;
-    let sites = sites_of(alloc, &world, instances, &mut counted)?;
-    built_at(rt, alloc, low, &world, sites)
+    let mut counted = tools_for(alloc, nodes, tools)?;
+    let contexts = contexts_of(alloc, &world, instances, &mut counted)?;
+    build_at_contexts(rt, alloc, low, &world, contexts)
 }
 
-// What is given is built, on a node for each of these sites.
-fn built_at<'a, R: Threads + Wait + Sync, T: CountedTools + Send + Drop + 'a>(
+// Builds a world, on a node for each of these contexts.
+fn build_at_contexts<'a, R: Threads + Wait + Sync, T: CountedTools + Send + Drop + 'a>(
     rt: &R,
     alloc: Global,
     low: bool,
     world: &'a World,
-    sites: Vec<Site<'a, &'a mut T>>,
+    contexts: Vec<NodeContext<'a, &'a mut T>>,
 ) -> Result<Outcome, NoMemory>
-    requires count { (0 < vec_len sites) × (vec_len sites ≤ 64) }
-    requires suit { All (λ site. Suits T.answer site.world.now site.instances
-        (world_of T.answer world.now)) sites.items }
+    requires count { (0 < vec_len contexts) × (vec_len contexts ≤ 64) }
+    requires suit { All (λ context. Suits T.answer context.world.now context.instances
+        (world_of T.answer world.now)) contexts.items }
     ensures outcome { IfOk result (λ o. ∥ IsOutcome (world_of T.answer world.entry.now) low o ∥₁) }
     ensures nodes { IfOk result (λ o.
-        ∥ IsOutcomeOn (world_of T.answer world.entry.now) (vec_len sites.entry) low o ∥₁) }
+        ∥ IsOutcomeOn (world_of T.answer world.entry.now) (vec_len contexts.entry) low o ∥₁) }
     ensures status { IfOk result (λ o. IsCompletion o.status ⊎ IsRefusal o.status) }
 {
     let key = root_key(world)?;
     let walk = Walk::start(alloc, world)?;
-    build_on_many(rt, alloc, key, walk, sites, low)
+    build_on_many(rt, alloc, key, walk, contexts, low)
 }
 
-/// The sites of nodes that have these tools. The first node keeps these instances, since it is the
-/// one that begins with the root request.
-pub fn sites_of<'a, T: CountedTools + Drop + 'a>(
+/// The contexts of nodes that have these tools. The first node keeps these instances, since it is
+/// the one that begins with the root request.
+pub fn contexts_of<'a, T: CountedTools + Drop + 'a>(
     alloc: Global,
     world: &'a World,
     instances: Instances,
     tools: &'a mut Vec<T>,
-) -> Result<Vec<Site<'a, &'a mut T>>, NoMemory>
+) -> Result<Vec<NodeContext<'a, &'a mut T>>, NoMemory>
     requires { AreEvaluated world.now.tree.files instances }
-    ensures count { IfOk result (λ sites. vec_len sites ≡ vec_len tools.old) }
-    ensures suit { IfOk result (λ sites. All (λ site. Suits T.answer site.world.now
-        site.instances (world_of T.answer world.entry.now)) sites.items) }
+    ensures count { IfOk result (λ contexts. vec_len contexts ≡ vec_len tools.old) }
+    ensures suit { IfOk result (λ contexts. All (λ context. Suits T.answer context.world.now
+        context.instances (world_of T.answer world.entry.now)) contexts.items) }
 {
     let mut instances = instances;
-    let mut sites = Vec::new(alloc);
+    let mut contexts = Vec::new(alloc);
     for lent in tools.iter_mut() {
-        sites.push(Site {
+        contexts.push(NodeContext {
             world,
             tools: lent,
             instances: mem::replace(&mut instances, Instances::new(alloc)),
         })?;
     }
-    Ok(sites)
+    Ok(contexts)
 }
 
 // The tools for each node, which counts its calls by itself.
-fn counted<'a, T: Tools>(
+fn tools_for<'a, T: Tools>(
     alloc: Global,
     nodes: u32,
     tools: &'a T,

@@ -7,9 +7,9 @@ ghost use Rattle.msb_outcomes.specs.Calls.{AreCallsFor};
 ghost use Rattle.msb_outcomes.specs.OnNodes.{ComesOn};
 ghost use Rattle.msb_outcomes.specs.Outcomes.{ComesOf, HasStatus, IsUnfinished, MakesRuns};
 
-use crate::alone::built;
-use crate::checked::checked;
-use crate::on_nodes::built_on;
+use crate::alone::build_world_alone;
+use crate::checked::check_world;
+use crate::on_nodes::build_world_on;
 use crate::work::Work;
 use build_outcome::Outcome;
 use msb_values::NoMemory;
@@ -36,8 +36,11 @@ pub fn outcome_alone<T: CountedTools>(
 {
     match work {
         Work::Told(outcome) => Ok(outcome),
-        Work::Build(given) => built(alloc, options.low, given, tools),
-        Work::Check(given) => checked(alloc, given, tools),
+        Work::Build(given) => {
+            let (world, instances) = given.parts();
+            build_world_alone(alloc, options.low, &world, instances, tools)
+        }
+        Work::Check(given) => check_world(alloc, given, tools),
     }
 }
 
@@ -57,10 +60,10 @@ pub fn outcome_on<R: Threads + Wait + Sync, T: Tools + Sync>(
 {
     match work {
         Work::Told(outcome) => Ok(outcome),
-        Work::Build(given) => built_on(rt, alloc, options.low, options.nodes, given, tools),
+        Work::Build(given) => build_world_on(rt, alloc, options.low, options.nodes, given, tools),
         Work::Check(given) => {
             let mut counted = Counted::new(alloc, tools)?;
-            checked(alloc, given, &mut counted)
+            check_world(alloc, given, &mut counted)
         }
     }
 }

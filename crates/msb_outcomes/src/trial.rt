@@ -14,7 +14,7 @@ ghost use Rattle.request_machine.specs.Worlds.{world_of};
 ghost use Rattle.msb_outcomes.specs.Trials.{
   AreEqual,
   IsSetOf,
-  IsTold,
+  IsComparison,
   IsTrial,
   bytes_in,
   first_line,
@@ -22,8 +22,8 @@ ghost use Rattle.msb_outcomes.specs.Trials.{
   trial_text,
 };
 
-use crate::alone::built_with;
-use crate::on_nodes::built_on;
+use crate::alone::build_world_alone;
+use crate::on_nodes::build_world_on;
 use crate::world_with_instances::WorldWithInstances;
 use build_outcome::Outcome;
 use build_world::World;
@@ -43,9 +43,9 @@ pub fn trial_alone(alloc: Global, options: &Options) -> Result<Text8, NoMemory>
 {
     let world = set_of(alloc, options)?;
     let mut tools = Counted::new(alloc, &NoTools)?;
-    let one = built_anew(alloc, &world, &mut tools)?;
-    let other = built_anew(alloc, &world, &mut tools)?;
-    told(alloc, options, &one, &other)
+    let one = build_anew(alloc, &world, &mut tools)?;
+    let other = build_anew(alloc, &world, &mut tools)?;
+    compare(alloc, options, &one, &other)
 }
 
 /// The five lines of a trial whose second build takes as many nodes as the words tell.
@@ -59,10 +59,10 @@ pub fn trial_on<R: Threads + Wait + Sync>(
 {
     let world = set_of(alloc, options)?;
     let mut tools = Counted::new(alloc, &NoTools)?;
-    let one = built_anew(alloc, &world, &mut tools)?;
+    let one = build_anew(alloc, &world, &mut tools)?;
     let given = WorldWithInstances::of_world(alloc, world);
-    let other = built_on(rt, alloc, false, options.nodes, given, &NoTools)?;
-    told(alloc, options, &one, &other)
+    let other = build_world_on(rt, alloc, false, options.nodes, given, &NoTools)?;
+    compare(alloc, options, &one, &other)
 }
 
 // What both builds are given.
@@ -78,8 +78,8 @@ fn set_of(alloc: Global, options: &Options) -> Result<World, NoMemory>
     })
 }
 
-// What is given is built on one node, where no instance is evaluated yet.
-fn built_anew<'a, T: CountedTools + 'a>(
+// Builds a world on one node, where no instance is evaluated yet.
+fn build_anew<'a, T: CountedTools + 'a>(
     alloc: Global,
     world: &'a World,
     tools: &'a mut T,
@@ -89,11 +89,17 @@ fn built_anew<'a, T: CountedTools + 'a>(
     ensures comes { IfOk result (λ o.
         ∥ IsOutcomeOnOne (world_of T.answer world.entry.now) false o ∥₁) }
 {
-    built_with(alloc, false, world, Instances::new(alloc), tools)
+    build_world_alone(alloc, false, world, Instances::new(alloc), tools)
 }
 
-fn told(alloc: Global, options: &Options, one: &Outcome, other: &Outcome) -> Result<Text8, NoMemory>
-    ensures { IfOk result (IsTold options.now one.now other.now) }
+// The five lines by both outcomes.
+fn compare(
+    alloc: Global,
+    options: &Options,
+    one: &Outcome,
+    other: &Outcome,
+) -> Result<Text8, NoMemory>
+    ensures { IfOk result (IsComparison options.now one.now other.now) }
 {
     let equal = are_equal(one, other);
     text_of(alloc, options, one, equal)

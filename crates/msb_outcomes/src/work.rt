@@ -26,7 +26,7 @@ ghost use Rattle.msb_outcomes.specs.declared.work.Work.TheVariants.{Told};
 
 use crate::world_with_instances::WorldWithInstances;
 use build_outcome::Outcome;
-use build_report::{shown_eval, shown_targets};
+use build_report::{show_eval, show_targets};
 use build_world::{EvalFault, World};
 use file_store::Tree;
 use msb_instance::{InstanceRef, Instances};
@@ -68,7 +68,7 @@ pub fn work_within(alloc: Global, options: &Options, tree: Tree) -> Result<Work,
             work_at(alloc, options, key, tree)
         }
         Err(NormalFault::Memory) => Err(NoMemory),
-        Err(_) => not_found(alloc, options.project.as_str()),
+        Err(_) => refuse_missing(alloc, options.project.as_str()),
     }
 }
 
@@ -77,15 +77,15 @@ fn work_at(alloc: Global, options: &Options, key: InstanceKey, tree: Tree) -> Re
     ensures { IfOk result (IsWorkOfFile options.now key tree.files (file_at key.path tree.files)) }
 {
     if tree.find(key.path.as_str()).is_none() {
-        return not_found(alloc, options.project.as_str());
+        return refuse_missing(alloc, options.project.as_str());
     }
-    match evaluated(alloc, &tree, &key) {
+    match evaluate_root(alloc, &tree, &key) {
         Ok(root) => work_of(alloc, options, key, tree, root),
-        Err(fault) => refused_by(alloc, &fault),
+        Err(fault) => refuse_by(alloc, &fault),
     }
 }
 
-fn evaluated(alloc: Global, tree: &Tree, key: &InstanceKey) -> Result<Root, EvalFault>
+fn evaluate_root(alloc: Global, tree: &Tree, key: &InstanceKey) -> Result<Root, EvalFault>
     requires { IsSome (file_at key.now.path tree.now.files) }
     ensures gives { GivesFault (λ root. seen_instance root.instance) result
         (evaluated tree.now.files key.now) }
@@ -116,34 +116,34 @@ fn work_of(
         instances,
     } = root;
     match options.action {
-        Action::Build => Ok(Work::Build(asked(options, key, tree, instances)?)),
-        Action::Check => Ok(Work::Check(asked(options, key, tree, instances)?)),
-        Action::Eval => told_eval(alloc, &instance),
-        Action::Targets => told_targets(alloc, &instance),
+        Action::Build => Ok(Work::Build(world_for(options, key, tree, instances)?)),
+        Action::Check => Ok(Work::Check(world_for(options, key, tree, instances)?)),
+        Action::Eval => tell_eval(alloc, &instance),
+        Action::Targets => tell_targets(alloc, &instance),
         Action::Trial => unreachable!(),
     }
 }
 
-fn told_eval(alloc: Global, instance: &InstanceRef) -> Result<Work, NoMemory>
+fn tell_eval(alloc: Global, instance: &InstanceRef) -> Result<Work, NoMemory>
     ensures { IfOk result (λ work. let i = seen_instance instance.now in
         work ≡ Told (shown (eval_text i.scope i.duplicates))) }
 {
     let project = instance.get();
-    let text = shown_eval(alloc, &project.scope, &project.duplicates)?;
-    Ok(shown(alloc, text))
+    let text = show_eval(alloc, &project.scope, &project.duplicates)?;
+    Ok(show(alloc, text))
 }
 
-fn told_targets(alloc: Global, instance: &InstanceRef) -> Result<Work, NoMemory>
+fn tell_targets(alloc: Global, instance: &InstanceRef) -> Result<Work, NoMemory>
     ensures { IfOk result (λ work. let i = seen_instance instance.now in
         work ≡ Told (shown (targets_text i.rows i.initial i.default))) }
 {
     let project = instance.get();
-    let text = shown_targets(alloc, &project.rows, &project.initial, &project.default)?;
-    Ok(shown(alloc, text))
+    let text = show_targets(alloc, &project.rows, &project.initial, &project.default)?;
+    Ok(show(alloc, text))
 }
 
 // What a build is given, with the instances by its files that are evaluated already.
-fn asked(
+fn world_for(
     options: &Options,
     key: InstanceKey,
     tree: Tree,
@@ -172,13 +172,13 @@ fn mode_of(clean: bool) -> Mode
     }
 }
 
-fn shown(alloc: Global, text: Text8) -> Work
+fn show(alloc: Global, text: Text8) -> Work
     ensures { result ≡ Told (shown text) }
 {
     Work::Told(Outcome::of_text(alloc, 0, text))
 }
 
-fn refused_by(alloc: Global, fault: &EvalFault) -> Result<Work, NoMemory>
+fn refuse_by(alloc: Global, fault: &EvalFault) -> Result<Work, NoMemory>
     ensures refused { IfOk result (λ work. work ≡ Told (refused (fault_text fault.now))) }
     ensures cause { IfOk result (λ _. fault.now.cause ≢ Memory) }
 {
@@ -186,16 +186,16 @@ fn refused_by(alloc: Global, fault: &EvalFault) -> Result<Work, NoMemory>
         return Err(NoMemory);
     }
     let reason = fault.shown(alloc)?;
-    refused(alloc, reason.as_str())
+    refuse(alloc, reason.as_str())
 }
 
-fn not_found(alloc: Global, word: &str) -> Result<Work, NoMemory>
+fn refuse_missing(alloc: Global, word: &str) -> Result<Work, NoMemory>
     ensures { IfOk result (λ work. work ≡ Told (not_found word.now)) }
 {
-    refused(alloc, format!(in alloc; "{word}: not found")?.as_str())
+    refuse(alloc, format!(in alloc; "{word}: not found")?.as_str())
 }
 
-fn refused(alloc: Global, reason: &str) -> Result<Work, NoMemory>
+fn refuse(alloc: Global, reason: &str) -> Result<Work, NoMemory>
     ensures { IfOk result (λ work. work ≡ Told (refused reason.now)) }
 {
     let text = format!(in alloc; "project refused\n  {reason}\n")?;

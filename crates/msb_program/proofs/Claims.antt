@@ -79,7 +79,8 @@ module _ (tools : Answering) (words : List (List ℕ)) (l : Loading) (s : Saving
 
   -- what is to be known of a status where neither the store nor the sink failed
   abbrev pub Unfailing : ℕ → Type 0
-  Unfailing status = ¬ Rose l.faults_before l.faults_after → ¬ Rose p.faults_before p.faults_after
+  Unfailing status =
+      ¬ Rose l.faults_before l.faults_after → ¬ Rose p.faults_before p.faults_after
       → (status ≡ 7) ⊎ IsStatusOf tools (options_in words) l.told status
 
   pub answers_at : (at : ℕ) → IsStatus at → Claim at → (status : ℕ) → status ≡ at → Unfailing status
@@ -103,7 +104,8 @@ module _ (tools : Answering) (words : List (List ℕ)) (l : Loading) (s : Saving
 
   pub memory_answers : (status : ℕ) → status ≡ 7 → IsMemory tools words l.told s p
       → Answers tools words l s p status
-  memory_answers status is memory = answers_at 7
+  memory_answers status is memory =
+      answers_at 7
       (inr (inr (inr (inr (inr (inr (inr (inl refl)))))))) memory status is (λ store sink. inl is)
 
   pub usage_answers : (status : ℕ) → status ≡ 2 → options_in words ≡ None → Kept s → Printed p usage

@@ -66,7 +66,8 @@ module _ (tools : Answering) (words : List (List ℕ)) (l : Loading) (s : Saving
     meant = built means.build.options.low out.value out.journal
 
     answers_this : AnswersMeant words l s p meant status
-    answers_this = answers_meant tools words l s p status answers meant
+    answers_this =
+        answers_meant tools words l s p status answers meant
         (means_of tools words l.told means.given means.build out whole
         (means.steady out whole.means))
 

@@ -237,7 +237,8 @@ module _ (files : List File) (journal : Journal) where
   part_is place after w = by (slice_get (commit_list journal) place) refl w.next
     where
       front : IsOldOrFinal files journal w.between
-      front = front_is (take place (commit_list journal))
+      front =
+          front_is (take place (commit_list journal))
           (each_take (IsIn journal) place (commit_list journal) (committed journal)) w.between
           (AreDone-contents (take place (commit_list journal)) files w.between w.first)
 

@@ -49,10 +49,9 @@ module _ (o : Outcome) (before after : ℕ) (s : Saving) (p : Printing)
           place = place;
           saved = saved;
           rose = rose;
-          printed = subst
-              (λ entry.
-              IsSomeAnd entry (λ one. Printed p (line (codes "store fault " ++ act_path one)))) (sym is)
-              told.1;
+          printed = subst (λ entry.
+              IsSomeAnd entry (λ one. Printed p (line (codes "store fault " ++ act_path one))))
+              (sym is) told.1;
         },
       ))))
   failed_ends status place act is saved rose (inr memory) =

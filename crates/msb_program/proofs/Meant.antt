@@ -129,7 +129,8 @@ same_act (Write put) = refl
 same_act (Remove path) = refl
 
 act_code : Coded Act
-act_code = code_by (List ℕ × Option (List ℕ)) (coded× bytes_code (coded_option bytes_code))
+act_code =
+    code_by (List ℕ × Option (List ℕ)) (coded× bytes_code (coded_option bytes_code))
     act_parts act_of_parts same_act
 
 outcome_code : Coded Outcome

@@ -1,6 +1,7 @@
 -- What a status of the program says of its words, of the files that the store tells, and of what
 -- was done to files and printed.
 use Rattle.std.specs.Prelude.{◌≡◌, ◌⊎◌, ◌++◌, ℕ, List, true, Option, Some, None, IfSome, codes}
+use Rattle.msb_laws.specs.Words.{Path, Text}
 use Rattle.msb_laws.specs.Faults.{Rose}
 use Rattle.file_store.specs.Entries.{entries_of}
 use Rattle.file_store.specs.Failed.{Failures}
@@ -52,7 +53,7 @@ loading store old new = record {
   after = store.failures new;
 }
 
-abbrev pub usage : List ℕ
+abbrev pub usage : Text
 usage =
     line (codes "usage: msb ACTION PROJECT [--target LIST] [--property LIST] [--nodes N] [--clean]"
     ++ codes " [--show low] [--size N]")
@@ -79,11 +80,11 @@ AsksForTrial None = ⊥
 AsksForTrial (Some options) = options.action ≡ Trial
 
 -- 2: the words are outside the grammar
-abbrev pub IsUsage : List (List ℕ) → Saving → Printing → Type 0
+abbrev pub IsUsage : List Text → Saving → Printing → Type 0
 IsUsage words s p = (options_in words ≡ None) × Kept s × Printed p usage
 
 -- a load fails for this reason, by a call of its kind, and so it is told
-pub record LoadFails (words : List (List ℕ)) (l : Loading) (s : Saving) (p : Printing)
+pub record LoadFails (words : List Text) (l : Loading) (s : Saving) (p : Printing)
     (fault : LoadFault) : Type 0 where
   pub asked : AsksForProject (options_in words)
   pub cause : IsCaused l.faults_before l.faults_after l.told fault
@@ -93,15 +94,15 @@ pub record LoadFails (words : List (List ℕ)) (l : Loading) (s : Saving) (p : P
 
 -- the store failed at its listing, or at the read of a file of a listing within the limits
 abbrev pub IsStoreFault : LoadFault → Type 0
-IsStoreFault fault = (fault ≡ Listing) ⊎ ((path : List ℕ) × (fault ≡ Reading path))
+IsStoreFault fault = (fault ≡ Listing) ⊎ ((path : Path) × (fault ≡ Reading path))
 
-abbrev pub IsLoadFailure : List (List ℕ) → Loading → Saving → Printing → Type 0
+abbrev pub IsLoadFailure : List Text → Loading → Saving → Printing → Type 0
 IsLoadFailure words l s p =
     (fault : LoadFault) × IsStoreFault fault × Rose l.faults_before l.faults_after
     × LoadFails words l s p fault
 
 -- 8: the listing that was got passes a limit
-abbrev pub IsPastLimit : List (List ℕ) → Loading → Saving → Printing → Type 0
+abbrev pub IsPastLimit : List Text → Loading → Saving → Printing → Type 0
 IsPastLimit words l s p =
     (fault : LoadFault) × OfListing l.told (λ listing. limit_fault listing ≡ Some fault)
     × LoadFails words l s p fault
@@ -113,18 +114,18 @@ IsStatus status =
     ⊎ (status ≡ 5) ⊎ (status ≡ 6) ⊎ (status ≡ 7) ⊎ (status ≡ 8) ⊎ (status ≡ 9)
 
 -- the words ask for a trial, and P holds of a text that it may print; no file is written or removed
-pub record HasTrial (words : List (List ℕ)) (s : Saving) (P : List ℕ → Type 0) : Type 0 where
+pub record HasTrial (words : List Text) (s : Saving) (P : Text → Type 0) : Type 0 where
   pub options : Options
   pub asked : options_in words ≡ Some options
   pub trial : options.action ≡ Trial
   pub kept : Kept s
-  pub text : List ℕ
+  pub text : Text
   pub is : IsTrial options text
   pub holds : P text
 
 module _ (tools : Answering) where
   -- the words ask for a project, the store's files were loaded, and P holds of an outcome of both
-  pub record HasOutcome (words : List (List ℕ)) (told : Option (List File))
+  pub record HasOutcome (words : List Text) (told : Option (List File))
       (P : Outcome → Type 0)
       : Type 0 where
     pub options : Options
@@ -137,42 +138,42 @@ module _ (tools : Answering) where
     pub holds : P outcome
 
   -- 0: what the words ask for was done, its acts were done, and its text was printed whole
-  abbrev pub IsDone : List (List ℕ) → Option (List File) → Saving → Printing → Type 0
+  abbrev pub IsDone : List Text → Option (List File) → Saving → Printing → Type 0
   IsDone words told s p =
       HasOutcome words told (λ o. (o.status ≡ 0) × EndsWhole s p o)
       ⊎ HasTrial words s (PrintedAll p)
 
   -- 1: the request failed, or a check has another verdict than that the set is steady; its acts
   -- were done, and its text was printed whole
-  abbrev pub IsFailed : List (List ℕ) → Option (List File) → Saving → Printing → Type 0
+  abbrev pub IsFailed : List Text → Option (List File) → Saving → Printing → Type 0
   IsFailed words told s p = HasOutcome words told (λ o. (o.status ≡ 1) × EndsWhole s p o)
 
   -- 3: the project is refused
-  abbrev pub IsRefused : List (List ℕ) → Option (List File) → Saving → Printing → Type 0
+  abbrev pub IsRefused : List Text → Option (List File) → Saving → Printing → Type 0
   IsRefused words told s p = HasOutcome words told (λ o. (o.status ≡ 3) × EndsRefused s p o)
 
   -- 4: the build is refused
-  abbrev pub IsStopped : List (List ℕ) → Option (List File) → Saving → Printing → Type 0
+  abbrev pub IsStopped : List Text → Option (List File) → Saving → Printing → Type 0
   IsStopped words told s p = HasOutcome words told (λ o. (o.status ≡ 4) × EndsRefused s p o)
 
   -- 9: a check has made as many bodies as it makes
-  abbrev pub IsSpent : List (List ℕ) → Option (List File) → Saving → Printing → Type 0
+  abbrev pub IsSpent : List Text → Option (List File) → Saving → Printing → Type 0
   IsSpent words told s p = HasOutcome words told (λ o. (o.status ≡ 9) × EndsRefused s p o)
 
   -- 5: the store's count of faults rose, in the load, or as the acts of an outcome were done
-  abbrev pub IsStoreFailure : List (List ℕ) → Loading → Saving → Printing → Type 0
+  abbrev pub IsStoreFailure : List Text → Loading → Saving → Printing → Type 0
   IsStoreFailure words l s p =
       IsLoadFailure words l s p
       ⊎ HasOutcome words l.told (EndsUnwritten l.faults_before l.faults_after s p)
 
   -- 6: the sink's count of faults rose where all else was done
-  abbrev pub IsSinkFailure : List (List ℕ) → Option (List File) → Saving → Printing → Type 0
+  abbrev pub IsSinkFailure : List Text → Option (List File) → Saving → Printing → Type 0
   IsSinkFailure words told s p =
       HasOutcome words told (EndsUnprinted s p)
       ⊎ HasTrial words s (λ text. Rose p.faults_before p.faults_after × PrintedFront p text)
 
   -- 7: want of memory, which may come at any place and prints nothing
-  abbrev pub IsMemory : List (List ℕ) → Option (List File) → Saving → Printing → Type 0
+  abbrev pub IsMemory : List Text → Option (List File) → Saving → Printing → Type 0
   IsMemory words told s p = Silent p × (Kept s ⊎ HasOutcome words told (EndsHalfway s))
 
   -- the words ask for a project, and the status is that of an outcome of it and the told files
@@ -190,7 +191,7 @@ module _ (tools : Answering) where
       IsStatusOfProject options told status ⊎ ((options.action ≡ Trial) × (status ≡ 0))
 
   -- What each status says.
-  pub record Answers (words : List (List ℕ)) (l : Loading) (s : Saving) (p : Printing)
+  pub record Answers (words : List Text) (l : Loading) (s : Saving) (p : Printing)
       (status : ℕ) : Type 0 where
     pub known : IsStatus status
     pub done : status ≡ 0 → IsDone words l.told s p

@@ -1,5 +1,6 @@
 -- Which tools a build calls, by its meaning. (Task element)
 use Rattle.std.specs.Prelude.{◌≡◌, ◌⊎◌, ℕ, List, ◌++◌, Bool}
+use Rattle.msb_laws.specs.Words.{Text}
 use Rattle.result_cache.specs.declared.request.RequestResult.{RequestResult}
 use Rattle.task_trait.specs.declared.tools.ToolInput.{ToolInput}
 use Rattle.build_meaning.specs.Meaning.{Given}
@@ -47,7 +48,7 @@ pub record IsOfNodes (tools : Answering) (given : World) (options : Options) (l 
 
 -- a build came to no outcome: its files could not be loaded, or no memory was found before there
 -- was one
-abbrev pub IsUnmade : List (List ℕ) → Loading → Saving → Printing → ℕ → Type 0
+abbrev pub IsUnmade : List Text → Loading → Saving → Printing → ℕ → Type 0
 IsUnmade words l s p status =
     ((status ≡ 5) × IsLoadFailure words l s p) ⊎ ((status ≡ 7) × Kept s × Silent p)
 

@@ -1,6 +1,7 @@
 -- What a status of the program says where a build may be trusted to skip what is up to date: its
 -- result and its files are those of the clean build. (Incremental builds)
 use Rattle.std.specs.Prelude.{◌≡◌, ◌⊎◌, ℕ, Bool, List, Option, Some, IfSome, IsSomeAnd}
+use Rattle.msb_laws.specs.Words.{Path, Text}
 use Rattle.msb_laws.specs.Faults.{Rose}
 use Rattle.file_store.specs.declared.tree.File.{File}
 use Rattle.result_cache.specs.declared.request.RequestResult.{RequestResult}
@@ -24,7 +25,7 @@ use Rattle.msb_program.specs.Meanings.{IsAskedOf}
 
 -- The words ask for a build of the files that the store tells. The clean build of what it is given
 -- comes to this, and is declared and fresh; and the build that is asked for is steady.
-pub record MeansClean (tools : Answering) (words : List (List ℕ)) (told : Option (List File))
+pub record MeansClean (tools : Answering) (words : List Text) (told : Option (List File))
     (clean : Given Site ToolInput RequestResult) : Type 0 where
   pub given : World
   pub build : IsAskedOf words told given
@@ -38,7 +39,8 @@ SavedFinal s journal = IfSome s.before (λ files. IsSomeAnd s.after (IsFinalTree
 
 -- each path has the bytes that it had, or what a build with this journal leaves there
 abbrev pub IsOldOrFinal : List File → Journal → List File → Type 0
-IsOldOrFinal before journal after = (path : List ℕ) →
+IsOldOrFinal before journal after =
+    (path : Path) →
     (bytes_in after path ≡ bytes_in before path)
     ⊎ (bytes_in after path ≡ content (record { files = before; journal = journal }) path)
 

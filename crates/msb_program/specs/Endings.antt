@@ -16,6 +16,7 @@ use Rattle.std.specs.Prelude.{
   Err,
   codes,
 }
+use Rattle.msb_laws.specs.Words.{Text}
 use Rattle.msb_laws.specs.Faults.{Rose}
 use Rattle.msb_laws.specs.Gains.{Appends, AppendsFront, Prints}
 use Rattle.msb_values.specs.declared.errors.NoMemory.{NoMemory}
@@ -59,8 +60,8 @@ pub record SavedTo (s : Saving) (list : List Act) (place : ℕ) : Type 0 where
 pub record Printing : Type 0 where
   pub faults_before : ℕ
   pub faults_after : ℕ
-  pub before : Option (List ℕ)
-  pub after : Option (List ℕ)
+  pub before : Option Text
+  pub after : Option Text
 
 -- by what the sink's type tells of its values
 abbrev pub printing : {K : Type 0} → SinkTells K → K → K → Printing
@@ -72,15 +73,15 @@ printing sink old new = record {
 }
 
 -- the whole text was printed
-abbrev pub PrintedAll : Printing → List ℕ → Type 0
+abbrev pub PrintedAll : Printing → Text → Type 0
 PrintedAll p text = Appends p.before p.after text
 
 -- a front of the text was printed
-abbrev pub PrintedFront : Printing → List ℕ → Type 0
+abbrev pub PrintedFront : Printing → Text → Type 0
 PrintedFront p text = AppendsFront p.before p.after text
 
 -- the whole text was printed, or a front of it where the sink failed
-abbrev pub Printed : Printing → List ℕ → Type 0
+abbrev pub Printed : Printing → Text → Type 0
 Printed p text = Prints p.faults_before p.faults_after p.before p.after text
 
 -- nothing was printed
@@ -135,7 +136,7 @@ EndsMade (Ok o) faults_before faults_after s p status = Ends o faults_before fau
 EndsMade (Err none) faults_before faults_after s p status = (status ≡ 7) × Kept s × Silent p
 
 -- how a trial ends: its text is printed, or the sink fails; for want of memory there is none
-abbrev pub EndsTrial : Result (List ℕ) NoMemory → Printing → ℕ → Type 0
+abbrev pub EndsTrial : Result Text NoMemory → Printing → ℕ → Type 0
 EndsTrial (Ok text) p status =
     ((status ≡ 0) × PrintedAll p text)
     ⊎ ((status ≡ 6) × Rose p.faults_before p.faults_after × PrintedFront p text)

@@ -1,5 +1,6 @@
 -- One invocation of the program. (MSBuild command-line reference)
-use Rattle.std.specs.Prelude.{ℕ, List, String, map, string_bytes}
+use Rattle.std.specs.Prelude.{List, String, map, string_bytes}
+use Rattle.msb_laws.specs.Words.{Text}
 use Rattle.file_store.specs.declared.sink.Sink.{Ghosts as SinkTells}
 use Rattle.file_store.specs.declared.store.Store.{Ghosts as StoreTells}
 use Rattle.msb_program.specs.Answers.{Loading, loading}
@@ -7,7 +8,7 @@ use Rattle.msb_program.specs.Endings.{Printing, Saving, printing, saving}
 
 -- its words, and what the store and the sink tell before and after it
 pub record Invocation : Type 0 where
-  pub words : List (List ℕ)
+  pub words : List Text
   pub load : Loading
   pub save : Saving
   pub print : Printing

@@ -1,6 +1,7 @@
 -- What a status of the program says where the world of a build is whole and steady: its files and
 -- its text are those of its meaning. (MSBuild command-line reference)
 use Rattle.std.specs.Prelude.{◌≡◌, ◌⊎◌, ℕ, List, [], Option, Some, None}
+use Rattle.msb_laws.specs.Words.{Text}
 use Rattle.msb_laws.specs.Faults.{Rose}
 use Rattle.file_store.specs.Entries.{entries_of}
 use Rattle.file_store.specs.Limits.{limit_fault}
@@ -32,18 +33,17 @@ use Rattle.msb_outcomes.specs.Outcomes.{Answering, IsWorkAt}
 use Rattle.msb_outcomes.specs.declared.work.Work.TheVariants.{Build}
 
 -- the words ask for a build of the files that the store tells, which is given this
-pub record IsAskedOf (words : List (List ℕ)) (told : Option (List File)) (given : World) : Type 0
-  where
-    pub options : Options
-    pub asked : options_in words ≡ Some options
-    pub files : List File
-    pub told_are : told ≡ Some files
-    pub within : limit_fault (entries_of files) ≡ None
-    pub is : IsWorkAt options files (normal_path [] options.project) (Build given)
+pub record IsAskedOf (words : List Text) (told : Option (List File)) (given : World) : Type 0 where
+  pub options : Options
+  pub asked : options_in words ≡ Some options
+  pub files : List File
+  pub told_are : told ≡ Some files
+  pub within : limit_fault (entries_of files) ≡ None
+  pub is : IsWorkAt options files (normal_path [] options.project) (Build given)
 
 -- the world of the build that the words ask for is whole and steady, and this is the outcome that
 -- it means
-pub record Means (tools : Answering) (words : List (List ℕ)) (told : Option (List File))
+pub record Means (tools : Answering) (words : List Text) (told : Option (List File))
     (meant : Outcome) : Type 0 where
   pub given : World
   pub build : IsAskedOf words told given
@@ -54,7 +54,7 @@ pub record Means (tools : Answering) (words : List (List ℕ)) (told : Option (L
 
 -- What each status then says: the build is not refused, and its files and its text are those of the
 -- meaning's outcome.
-pub record AnswersMeant (words : List (List ℕ)) (l : Loading) (s : Saving) (p : Printing)
+pub record AnswersMeant (words : List Text) (l : Loading) (s : Saving) (p : Printing)
     (meant : Outcome) (status : ℕ) : Type 0 where
   pub known : (status ≡ 0) ⊎ (status ≡ 1) ⊎ (status ≡ 5) ⊎ (status ≡ 6) ⊎ (status ≡ 7)
   pub done : (status ≡ 0) ⊎ (status ≡ 1) → (status ≡ meant.status) × EndsWhole s p meant

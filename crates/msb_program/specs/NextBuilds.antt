@@ -1,5 +1,6 @@
 -- What a build leaves to the next one, and what the next one finds up to date. (Incremental builds)
 use Rattle.std.specs.Prelude.{◌≡◌, ◌⊎◌, ℕ, Bool, List, Option, Some}
+use Rattle.msb_laws.specs.Words.{Text}
 use Rattle.msb_values.specs.declared.mode.Mode.TheVariants.{Incremental}
 use Rattle.file_store.specs.declared.tree.File.{File}
 use Rattle.file_store.specs.declared.tree.Tree.{Tree}
@@ -37,7 +38,7 @@ use Rattle.msb_program.specs.Meanings.{IsAskedOf}
 
 -- The words ask for a build of the files that the store tells, which may be trusted to skip and is
 -- settled; and over the tree that is left the clean build is repeated, and comes to this.
-pub record MeansRepeated (tools : Answering) (words : List (List ℕ)) (told : Option (List File))
+pub record MeansRepeated (tools : Answering) (words : List Text) (told : Option (List File))
     (left : Tree) (again : Given Site ToolInput RequestResult) : Type 0 where
   pub given : World
   pub build : IsAskedOf words told given
@@ -63,7 +64,7 @@ HasSaved status = (status ≡ 0) ⊎ (status ≡ 1) ⊎ (status ≡ 6)
 
 -- The words ask for a build that skips what is up to date, and that may be trusted to; and in the
 -- files that the store tells each output of a piece is no older than its inputs.
-pub record MeansUpToDate (tools : Answering) (words : List (List ℕ)) (told : Option (List File))
+pub record MeansUpToDate (tools : Answering) (words : List Text) (told : Option (List File))
     (clean : Given Site ToolInput RequestResult) : Type 0 where
   pub means : MeansClean tools words told clean
   pub mode : means.given.mode ≡ Incremental
@@ -72,18 +73,21 @@ pub record MeansUpToDate (tools : Answering) (words : List (List ℕ)) (told : O
 -- each run of a target with Inputs and Outputs has done nothing, and its record, from which its
 -- lines are printed, says `up to date` once for each of its pieces
 abbrev pub SkipsAll : Answering → List File → Journal → Type 0
-SkipsAll tools files journal = (run : RunId) (made : Record) → In (ended run made) journal →
+SkipsAll tools files journal =
+    (run : RunId) (made : Record) → In (ended run made) journal →
     (target : UsedTarget) → target_of files run ≡ Some target → TakesLists target →
     IsOfSkipped tools files target run made
 
 -- the whole text was printed of such a build, whose root request gives this
 abbrev pub PrintedSkips : Answering → List File → Printing → RequestResult → Type 0
-PrintedSkips tools files p root = (journal : Journal) × (low : Bool)
+PrintedSkips tools files p root =
+    (journal : Journal) × (low : Bool)
     × SkipsAll tools files journal × PrintedAll p (shown_text root journal low)
 
 -- none of the uses of tools is in a run of a target with Inputs and Outputs
 abbrev pub AreUsesOfOthers : List File → List (RunUse ToolInput) → Type 0
-AreUsesOfOthers files uses = (u : RunUse ToolInput) → In u uses → (target : UsedTarget) →
+AreUsesOfOthers files uses =
+    (u : RunUse ToolInput) → In u uses → (target : UsedTarget) →
     target_of files u.run ≡ Some target → TakesLists target → ⊥
 
 -- What was done to files and printed is an outcome of the build, to which some legal history leads;
@@ -99,9 +103,9 @@ pub record EndsIdle (tools : Answering) (given : World) (low : Bool) (s : Saving
 
 -- the calls of tools are uses of the meaning's runs, and none is of a run of a target with Inputs
 -- and Outputs
-pub record AreCallsOfOthers (tools : Answering) (given : World) (before after : Called) : Type 0
-  where
-    pub out : Given Site ToolInput RequestResult
-    pub means : meaning (world_of tools given) ≡ Some out
-    pub calls : AreMeantCalls out before after
-    pub others : AreUsesOfOthers given.tree.files calls.uses
+pub record AreCallsOfOthers (tools : Answering) (given : World)
+    (before after : Called) : Type 0 where
+  pub out : Given Site ToolInput RequestResult
+  pub means : meaning (world_of tools given) ≡ Some out
+  pub calls : AreMeantCalls out before after
+  pub others : AreUsesOfOthers given.tree.files calls.uses

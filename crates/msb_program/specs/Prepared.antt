@@ -1,6 +1,7 @@
 -- What is left to do once the words are read, the files loaded and the project evaluated. (MSBuild
 -- command-line reference)
-use Rattle.std.specs.Prelude.{◌≡◌, ◌<◌, ◌≤◌, ℕ, List, [], Some}
+use Rattle.std.specs.Prelude.{◌≡◌, ◌<◌, ◌≤◌, List, [], Some}
+use Rattle.msb_laws.specs.Words.{Text}
 use Rattle.file_store.specs.declared.tree.File.{File}
 use Rattle.msb_paths.specs.Refused.{normal_path}
 use Rattle.msb_words.specs.Options.{options_in}
@@ -15,7 +16,7 @@ use Rattle.msb_program.specs.declared.top.Prepared.TheVariants.{Ended, Ready, Tr
 use Rattle.msb_outcomes.specs.declared.work.Work.{Work}
 
 -- the words ask for this trial; no file was touched, and nothing printed
-pub record IsTrialAsked (words : List (List ℕ)) (s : Saving) (p : Printing)
+pub record IsTrialAsked (words : List Text) (s : Saving) (p : Printing)
     (options : Options) : Type 0 where
   pub asked : options_in words ≡ Some options
   pub nodes : (0 < options.nodes) × (options.nodes ≤ 64)
@@ -25,7 +26,7 @@ pub record IsTrialAsked (words : List (List ℕ)) (s : Saving) (p : Printing)
   pub unfailing : p.faults_after ≡ p.faults_before
 
 -- the words ask for this work over loaded files; no file was touched, and nothing printed
-pub record IsReady (words : List (List ℕ)) (l : Loading) (s : Saving) (p : Printing)
+pub record IsReady (words : List Text) (l : Loading) (s : Saving) (p : Printing)
     (options : Options) (work : Work) : Type 0 where
   pub asked : options_in words ≡ Some options
   pub project : HasProject options

@@ -14,5 +14,4 @@
 
 mod top;
 
-pub use gate_tools::Gate;
 pub use top::{run, run_alone};

@@ -106,8 +106,8 @@ pub fn run<R: Threads + Wait + Sync, S: Store, K: Sink, T: Tools + Sync>(
         Prepared::Ended(status) => status,
         Prepared::Trial(options) => end_trial(trial_on(rt, alloc, &options), sink),
         Prepared::Ready(options, work) => {
-            let made = outcome_on(rt, alloc, &options, work, tools);
-            end(alloc, made, store, sink)
+            let outcome = outcome_on(rt, alloc, &options, work, tools);
+            end(alloc, outcome, store, sink)
         }
     }
 }
@@ -148,8 +148,8 @@ pub fn run_alone<S: Store, K: Sink, T: CountedTools>(
         Prepared::Ended(status) => status,
         Prepared::Trial(options) => end_trial(trial_alone(alloc, &options), sink),
         Prepared::Ready(options, work) => {
-            let made = outcome_alone(alloc, &options, work, tools);
-            end(alloc, made, store, sink)
+            let outcome = outcome_alone(alloc, &options, work, tools);
+            end(alloc, outcome, store, sink)
         }
     }
 }
@@ -208,28 +208,28 @@ fn work_left(alloc: Global, options: Options, tree: Tree) -> Prepared
     }
 }
 
-// Ends what was made: its acts are done, and then its text is printed.
+// Ends what comes of the work: its acts are done, and then its text is printed.
 fn end<S: Store, K: Sink>(
     alloc: Global,
-    made: Result<Outcome, NoMemory>,
+    outcome: Result<Outcome, NoMemory>,
     store: &mut S,
     sink: &mut K,
 ) -> u8
-    requires { IfOk made (λ o. IsCompletion o.status ⊎ IsUnfinished o.status) }
-    ensures { EndsMade made (S.fault_count store.old) (S.fault_count store.new)
+    requires { IfOk outcome (λ o. IsCompletion o.status ⊎ IsUnfinished o.status) }
+    ensures { EndsMade outcome (S.fault_count store.old) (S.fault_count store.new)
         (saving S.Store store.old store.new) (printing K.Sink sink.old sink.new) result }
 {
-    match made {
+    match outcome {
         Ok(outcome) => commit_and_print(alloc, &outcome, store, sink),
         Err(NoMemory) => 7,
     }
 }
 
 // Ends a trial: its text is printed.
-fn end_trial<K: Sink>(made: Result<Text8, NoMemory>, sink: &mut K) -> u8
-    ensures { EndsTrial made (printing K.Sink sink.old sink.new) result }
+fn end_trial<K: Sink>(text: Result<Text8, NoMemory>, sink: &mut K) -> u8
+    ensures { EndsTrial text (printing K.Sink sink.old sink.new) result }
 {
-    match made {
+    match text {
         Ok(text) => tell(sink, 0, text.as_bytes()),
         Err(NoMemory) => 7,
     }

@@ -8,4 +8,5 @@ returns-in-Told-clause-status g c =
     also_stops c.in-Told.outcome.status (subst HasStatus c.in-Told.is c.requires.status)
 
 pub returns-in-Build-clause-status : goal.returns-in-Build-clause-status
-returns-in-Build-clause-status g c = each_stops c.built_on.result c.built_on.ensures.status
+returns-in-Build-clause-status g c =
+    each_stops c.build_world_on.result c.build_world_on.ensures.status

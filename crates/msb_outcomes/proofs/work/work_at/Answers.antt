@@ -7,5 +7,5 @@ pub returns-in-Err : goal.returns-in-Err
 returns-in-Err c =
     let there : IsSome (file_at c.args.key.path c.args.tree.files) = search rules in
     refused_work c.args.options.now c.args.key c.args.tree.files
-    (file_at c.args.key.path c.args.tree.files) there c.in-Err.fault c.refused_by.result
-    c.in-Err.ensures.gives c.refused_by.ensures.refused c.refused_by.ensures.cause
+    (file_at c.args.key.path c.args.tree.files) there c.in-Err.fault c.refuse_by.result
+    c.in-Err.ensures.gives c.refuse_by.ensures.refused c.refuse_by.ensures.cause

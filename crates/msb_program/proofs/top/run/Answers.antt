@@ -8,8 +8,8 @@ use Rattle.msb_program.proofs.Ready.{ended_since, ready_answers}
 use Rattle.msb_program.proofs.TrialEnded.{no_trial, trial_answers}
 use Rattle.msb_program.proofs.top.run.Goals as goal
 
-pub outcome_on-made-requires-clause-status : goal.outcome_on-made-requires-clause-status
-outcome_on-made-requires-clause-status g c κs within =
+pub outcome_on-outcome-requires-clause-status : goal.outcome_on-outcome-requires-clause-status
+outcome_on-outcome-requires-clause-status g c κs within =
     let ready = c.in-Ready.ensures.prepared in
     has_status c.in-Ready.options ready.files (normal_path [] c.in-Ready.options.project)
     c.in-Ready.work ready.is
@@ -29,7 +29,8 @@ pub returns-in-Ready-clause-answer : goal.returns-in-Ready-clause-answer
 returns-in-Ready-clause-answer g c =
     is_answered g.T.Tools.answer _ _ _ _ c.end.result
     (ready_answers g.T.Tools.answer c.in-Ready.options c.in-Ready.work c.in-Ready.ensures.prepared
-    c.outcome_on-made.result c.outcome_on-made.ensures.outcome c.end.result c.end.ensures) refl
+    c.outcome_on-outcome.result c.outcome_on-outcome.ensures.outcome c.end.result c.end.ensures)
+    refl
 
 pub returns-in-Ended-clause-nodes : goal.returns-in-Ended-clause-nodes
 returns-in-Ended-clause-nodes g c = λ given build.
@@ -46,9 +47,9 @@ pub returns-in-Ready-clause-nodes : goal.returns-in-Ready-clause-nodes
 returns-in-Ready-clause-nodes g c = λ given build.
     let ready = c.in-Ready.ensures.prepared in
     made_on_nodes g.T.Tools.answer _ _ given build c.in-Ready.options ready.files c.in-Ready.work
-    ready.asked ready.loaded ready.is _ _ _ c.end.result c.outcome_on-made.result
-    c.outcome_on-made.ensures.nodes
-    (ended_since c.in-Ready.options c.in-Ready.work ready c.outcome_on-made.result _ _ _ _
+    ready.asked ready.loaded ready.is _ _ _ c.end.result c.outcome_on-outcome.result
+    c.outcome_on-outcome.ensures.nodes
+    (ended_since c.in-Ready.options c.in-Ready.work ready c.outcome_on-outcome.result _ _ _ _
     c.end.result c.end.ensures)
 
 pub returns-in-Ready-clause-untouched : goal.returns-in-Ready-clause-untouched

@@ -16,8 +16,8 @@ use Rattle.msb_program.proofs.Ready.{ended_since, ready_answers, runs_of_words}
 use Rattle.msb_program.proofs.TrialEnded.{no_trial, trial_answers}
 use Rattle.msb_program.proofs.top.run_alone.Goals as goal
 
-pub outcome_alone-made-requires : goal.outcome_alone-made-requires
-outcome_alone-made-requires g c =
+pub outcome_alone-outcome-requires : goal.outcome_alone-outcome-requires
+outcome_alone-outcome-requires g c =
     let ready = c.in-Ready.ensures.prepared in
     has_status c.in-Ready.options ready.files (normal_path [] c.in-Ready.options.project)
     c.in-Ready.work ready.is
@@ -37,8 +37,8 @@ pub returns-in-Ready-clause-answer : goal.returns-in-Ready-clause-answer
 returns-in-Ready-clause-answer g c =
     is_answered g.T.CountedTools.answer _ _ _ _ c.end.result
     (ready_answers g.T.CountedTools.answer c.in-Ready.options c.in-Ready.work
-    c.in-Ready.ensures.prepared c.outcome_alone-made.result c.outcome_alone-made.ensures.outcome
-    c.end.result c.end.ensures) refl
+    c.in-Ready.ensures.prepared c.outcome_alone-outcome.result
+    c.outcome_alone-outcome.ensures.outcome c.end.result c.end.ensures) refl
 
 pub returns-in-Ended-clause-history : goal.returns-in-Ended-clause-history
 returns-in-Ended-clause-history g c = λ given build.
@@ -55,10 +55,9 @@ pub returns-in-Ready-clause-history : goal.returns-in-Ready-clause-history
 returns-in-Ready-clause-history g c = λ given build.
     let ready = c.in-Ready.ensures.prepared in
     made_history g.T.CountedTools.answer _ _ given build c.in-Ready.options ready.files
-    c.in-Ready.work
-    ready.asked ready.loaded ready.is _ _ _ c.end.result c.outcome_alone-made.result _ _
-    c.outcome_alone-made.ensures.calls
-    (ended_since c.in-Ready.options c.in-Ready.work ready c.outcome_alone-made.result _ _ _ _
+    c.in-Ready.work ready.asked ready.loaded ready.is _ _ _ c.end.result
+    c.outcome_alone-outcome.result _ _ c.outcome_alone-outcome.ensures.calls
+    (ended_since c.in-Ready.options c.in-Ready.work ready c.outcome_alone-outcome.result _ _ _ _
     c.end.result c.end.ensures)
 
 pub returns-in-Ended-clause-calls : goal.returns-in-Ended-clause-calls
@@ -76,9 +75,9 @@ returns-in-Ready-clause-calls g c = λ meant m done.
     let ready = c.in-Ready.ensures.prepared in
     done_calls g.T.CountedTools.answer (map string_bytes c.args.words.now)
     (g.S.Store.tree c.args.store.now) meant m c.in-Ready.options ready.files c.in-Ready.work
-    c.outcome_alone-made.result (g.T.CountedTools.calls c.args.tools.now)
-    (g.T.CountedTools.calls c.outcome_alone-made.new.tools) _ _ _ _ c.end.result ready.asked
-    ready.loaded ready.is c.outcome_alone-made.ensures.calls c.end.ensures done
+    c.outcome_alone-outcome.result (g.T.CountedTools.calls c.args.tools.now)
+    (g.T.CountedTools.calls c.outcome_alone-outcome.new.tools) _ _ _ _ c.end.result ready.asked
+    ready.loaded ready.is c.outcome_alone-outcome.ensures.calls c.end.ensures done
 
 pub returns-in-Ended-clause-idle : goal.returns-in-Ended-clause-idle
 returns-in-Ended-clause-idle g c = λ clean m done.
@@ -98,7 +97,7 @@ returns-in-Ready-clause-idle g c = λ clean m.
 pub returns-in-Ready-clause-uncalled : goal.returns-in-Ready-clause-uncalled
 returns-in-Ready-clause-uncalled g c = λ unasked.
     let ready = c.in-Ready.ensures.prepared in
-    c.outcome_alone-made.ensures.uncalled (λ makes.
+    c.outcome_alone-outcome.ensures.uncalled (λ makes.
     unasked
     (runs_of_words _ ready.files c.in-Ready.options c.in-Ready.work ready.asked ready.is makes))
 

@@ -7,8 +7,8 @@ use Rattle.build_outcome.specs.Outcomes.{built, IsOutcomeAt}
 use Rattle.build_outcome.proofs.RootOver.{root-replays, root-outcome}
 use Rattle.build_outcome.proofs.outcome.Outcome.of.Goals as goal
 
-pub built-requires : goal.built-requires
-built-requires g c =
+pub of_root-requires : goal.of_root-requires
+of_root-requires g c =
     let m = g.W.Walker in
     let core = c.args.core.now in
     subst (λ (t : TableRuns). IsSome (replay_all t.finished c.in-Some-Root.root.runs []))
@@ -22,7 +22,7 @@ returns-in-Some-Root-clause-outcome g c =
     let m = g.W.Walker in
     let core = c.args.core.now in
     let root = c.in-Some-Root.root in
-    IfOk-weaker c.built.result
+    IfOk-weaker c.of_root.result
     (λ outcome. IfSome (replay_all c.table.result.now.finished root.runs [])
     (λ journal. outcome ≡ built c.args.low root journal))
     (λ outcome.
@@ -33,4 +33,4 @@ returns-in-Some-Root-clause-outcome g c =
     (subst
     (λ (t : TableRuns). IfSome (replay_all t.finished root.runs [])
     (λ journal. outcome ≡ built c.args.low root journal)) c.table.ensures.table h))
-    c.built.ensures.outcome
+    c.of_root.ensures.outcome

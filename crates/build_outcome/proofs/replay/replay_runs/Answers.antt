@@ -1,7 +1,7 @@
 use Rattle.std.proofs.Common.{IsSome, ◌∙◌, sym, subst}
 use Rattle.result_cache.specs.Replay.{replay}
 use Rattle.msb_files.proofs.ReplaySteps.{run_step, run_defined}
-use Rattle.build_outcome.proofs.replayed.replayed.Goals as goal
+use Rattle.build_outcome.proofs.replay.replay_runs.Goals as goal
 
 pub replay-requires : goal.replay-requires
 replay-requires c =

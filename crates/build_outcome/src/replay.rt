@@ -7,7 +7,7 @@ use result_cache::{RunRef, Table};
 use std::alloc::Global;
 
 /// The journal that these runs give, replayed in order by a table from nothing. (MSBuild task.)
-pub fn replayed(alloc: Global, table: &Table, runs: &[RunRef]) -> Result<Journal, NoMemory>
+pub fn replay_runs(alloc: Global, table: &Table, runs: &[RunRef]) -> Result<Journal, NoMemory>
     requires { IsSome (replay_all table.now.finished runs.now []) }
     ensures { IfOk result (λ journal. replay_all table.now.finished runs.now [] ≡ Some journal) }
 {

@@ -1,6 +1,6 @@
 use Rattle.std.proofs.Common.{sym, subst}
 use Rattle.msb_instance.specs.Kept.{AreEvaluated}
-use Rattle.msb_outcomes.proofs.work.evaluated.Goals as goal
+use Rattle.msb_outcomes.proofs.work.evaluate_root.Goals as goal
 
 pub get-requires-clause-kept : goal.get-requires-clause-kept
 get-requires-clause-kept c =

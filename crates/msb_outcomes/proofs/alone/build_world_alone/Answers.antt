@@ -9,7 +9,7 @@ use Rattle.build_engine.specs.UsedFor.{IsUsedFor}
 use Rattle.msb_outcomes.specs.Calls.{as_uses}
 use Rattle.build_steady.proofs.Begun.{calls_begin}
 use Rattle.msb_outcomes.proofs.Beginning.{begins_there}
-use Rattle.msb_outcomes.proofs.alone.built_with.Goals as goal
+use Rattle.msb_outcomes.proofs.alone.build_world_alone.Goals as goal
 
 pub build_on_one-outcome-requires-clause-place : goal.build_on_one-outcome-requires-clause-place
 build_on_one-outcome-requires-clause-place g c = (c.in_ok-walk.ensures.world, c.requires)
@@ -18,9 +18,8 @@ pub build_on_one-outcome-requires-clause-begins : goal.build_on_one-outcome-requ
 build_on_one-outcome-requires-clause-begins g c =
     let tools = g.T.CountedTools.answer in
     begins_there (world_of tools c.args.world.now)
-    (world_of tools c.in_ok-walk.walk.request.world.now) (root_of c.args.world.now) c.in_ok-key.key
-    _
-    c.in_ok-walk.ensures.begins c.in_ok-walk.ensures.world c.in_ok-key.ensures
+    (world_of tools c.in_ok-walk.walk.request.world.now) (root_of c.args.world.now)
+    c.in_ok-key.key _ c.in_ok-walk.ensures.begins c.in_ok-walk.ensures.world c.in_ok-key.ensures
 
 pub returns-clause-used : goal.returns-clause-used
 returns-clause-used g c =

@@ -1,6 +1,6 @@
 use Rattle.std.proofs.Common.{refl, sym, subst}
 use Rattle.msb_outcomes.specs.Outcomes.{IsAsked}
-use Rattle.msb_outcomes.proofs.work.asked.Goals as goal
+use Rattle.msb_outcomes.proofs.work.world_for.Goals as goal
 
 pub returns : goal.returns
 returns c =

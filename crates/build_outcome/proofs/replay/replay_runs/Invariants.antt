@@ -1,6 +1,6 @@
 use Rattle.std.proofs.Common.{◌≡◌, [], map, drop}
 use Rattle.result_cache.specs.Replay.{replay, replays, replays_run}
-use Rattle.build_outcome.proofs.replayed.replayed.Given as goal
+use Rattle.build_outcome.proofs.replay.replay_runs.Given as goal
 
 abbrev pub invariant-loop-run : goal.invariant-loop-run
 invariant-loop-run l =

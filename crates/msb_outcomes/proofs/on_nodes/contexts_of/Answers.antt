@@ -1,9 +1,9 @@
 use Rattle.std.proofs.Common.{All, refl, rules, subst, sym, ◌∙◌}
 use Rattle.std.proofs.lemmas.List.Elements.{All-push}
 use Rattle.msb_instance.specs.Kept.{AreEvaluated}
-use Rattle.request_machine.specs.Sites.{Suits}
+use Rattle.request_machine.specs.NodeContexts.{Suits}
 use Rattle.request_machine.specs.Worlds.{world_of}
-use Rattle.msb_outcomes.proofs.on_nodes.sites_of.Goals as goal
+use Rattle.msb_outcomes.proofs.on_nodes.contexts_of.Goals as goal
 
 pub loop-lent-preserved : goal.loop-lent-preserved
 loop-lent-preserved g c =
@@ -13,10 +13,11 @@ loop-lent-preserved g c =
       count = search rules;
       kept = subst (AreEvaluated world.tree.files)
           (sym (c.replace.ensures.after ∙ c.new.ensures)) tt;
-      suit = subst (All (λ site. Suits answer site.world.now site.instances
+      suit = subst (All (λ context. Suits answer context.world.now context.instances
           (world_of answer world))) (sym c.in_ok-push.ensures.items)
-          (All-push (λ site. Suits answer site.world.now site.instances (world_of answer world))
-          c.loop-lent.sites.items _ c.loop-lent.invariant.suit (
+          (All-push
+          (λ context. Suits answer context.world.now context.instances (world_of answer world))
+          c.loop-lent.contexts.items _ c.loop-lent.invariant.suit (
             refl,
             subst (AreEvaluated world.tree.files) (sym c.replace.ensures.value)
                 c.loop-lent.invariant.kept,
