@@ -64,7 +64,7 @@ pub fn show_deep_instance(alloc: Global, key: &InstanceKey) -> Result<Text8, NoM
     ensures { IfOk result (λ t. t ≡ deep_instance_text key.now) }
 {
     let mut shown = String::new(alloc);
-    let key = key.shown(alloc)?;
+    let key = key.to_text(alloc)?;
     push_line(&mut shown, "not whole: too deep ", key.as_str())?;
     Ok(Text8::from(shown.into_bytes()))
 }
@@ -76,7 +76,7 @@ pub fn show_crowding_instance(alloc: Global, key: &InstanceKey) -> Result<Text8,
     ensures { IfOk result (λ t. t ≡ crowding_instance_text key.now) }
 {
     let mut shown = String::new(alloc);
-    let key = key.shown(alloc)?;
+    let key = key.to_text(alloc)?;
     push_line(&mut shown, "not whole: too many instances ", key.as_str())?;
     Ok(Text8::from(shown.into_bytes()))
 }

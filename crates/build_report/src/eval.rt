@@ -15,7 +15,7 @@ ghost use Rattle.build_report.specs.Eval.{
 };
 
 use msb_values::{
-    Defaults, Item, List, Lists, Name, NoMemory, Pairs, Scope, Text, Text8, overlaid, unescape,
+    Defaults, Item, List, Lists, Name, NoMemory, Pairs, Scope, Text, Text8, unescape, with_defaults,
 };
 use std::alloc::Global;
 
@@ -124,7 +124,7 @@ fn push_metadata(
 {
     match defaults {
         None => push_pairs(alloc, shown, own),
-        Some(defaults) => push_pairs(alloc, shown, &overlaid(defaults, own)?),
+        Some(defaults) => push_pairs(alloc, shown, &with_defaults(defaults, own)?),
     }
 }
 

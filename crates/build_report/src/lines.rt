@@ -20,7 +20,7 @@ pub fn push_line(shown: &mut String, before: &str, text: &str) -> Result<(), NoM
 pub fn push_name(alloc: Global, shown: &mut String, run: &RunId) -> Result<(), NoMemory>
     ensures { OnOk result (string_bytes shown.new ≡ string_bytes shown.old ++ run_text run.now) }
 {
-    let instance = run.instance.shown(alloc)?;
+    let instance = run.instance.to_text(alloc)?;
     shown.push_str(instance.as_str())?;
     shown.push_str(" : ")?;
     Ok(shown.push_str(run.target.key())?)

@@ -75,6 +75,6 @@ fn push_instance(alloc: Global, shown: &mut String, key: &InstanceKey) -> Result
     ensures { OnOk result (string_bytes shown.new
         ≡ string_bytes shown.old ++ instance_line key.now) }
 {
-    let key = key.shown(alloc)?;
+    let key = key.to_text(alloc)?;
     push_line(shown, "  ", key.as_str())
 }

@@ -78,7 +78,7 @@ impl Mentions {
     }
 
     /// The batched lists, in order of first mention.
-    pub(crate) fn batched(&self, alloc: Global) -> Result<Vec<&Name>, NoMemory>
+    pub(crate) fn batched_lists(&self, alloc: Global) -> Result<Vec<&Name>, NoMemory>
         ensures { IfOk result (λ kinds. map (λ kind. kind.now) kinds.items
             ≡ batched (spoken_of self.now)) }
     {
@@ -160,7 +160,7 @@ impl Mentions {
                 Some(reference) => self.add_reference(reference),
                 None => Ok(()),
             },
-            Part::Items(kind, _, _) => match Name::written(alloc, kind.as_str())? {
+            Part::Items(kind, _, _) => match Name::look_up(alloc, kind.as_str())? {
                 Some(kind) => self.add_named(kind),
                 None => Ok(()),
             },

@@ -38,22 +38,22 @@ pub(crate) fn read_reference(
         ≡ keyed (reference_key qualifier.now name.now)) }
 {
     match qualifier {
-        None => Ok(unqualified(Name::written(alloc, name.as_str())?)),
-        Some(qualifier) => Ok(qualified(
-            Name::written(alloc, qualifier.as_str())?,
-            Name::written(alloc, name.as_str())?,
+        None => Ok(unqualified_reference(Name::look_up(alloc, name.as_str())?)),
+        Some(qualifier) => Ok(qualified_reference(
+            Name::look_up(alloc, qualifier.as_str())?,
+            Name::look_up(alloc, name.as_str())?,
         )),
     }
 }
 
-fn unqualified(name: Option<Name>) -> Option<Reference>
+fn unqualified_reference(name: Option<Name>) -> Option<Reference>
     ensures { option_to_list result ≡ keyed (option_map (λ key. (None, key)) name) }
 {
     let name = name?;
     Some(Reference { kind: None, name })
 }
 
-fn qualified(kind: Option<Name>, name: Option<Name>) -> Option<Reference>
+fn qualified_reference(kind: Option<Name>, name: Option<Name>) -> Option<Reference>
     ensures { option_to_list result
         ≡ keyed (option_and_then (λ kind. option_map (λ key. (Some kind, key)) name) kind) }
 {

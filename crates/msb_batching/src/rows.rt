@@ -46,7 +46,7 @@ pub(crate) fn batches(
     ensures { GivesAs (λ batches. map pairs_of batches.items) result
         (batches_of (scene_of lens.now) (spoken_of mentions.now)) }
 {
-    let kinds = mentions.batched(alloc)?;
+    let kinds = mentions.batched_lists(alloc)?;
     let mut batches = Vec::new(alloc);
     for kind in &kinds {
         batches.push(read_batch(alloc, lens, mentions, *kind)?)?;

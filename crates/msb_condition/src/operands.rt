@@ -121,7 +121,7 @@ pub(crate) fn operand_of(
     match token.kind {
         Kind::Word => word(alloc, text, token, room),
         Kind::Quoted => expression(alloc, text, token.start + 1, token.end - 1, token.end),
-        Kind::Unended => Err(unended(alloc, text, token.start + 1)),
+        Kind::Unended => Err(unended_fault(alloc, text, token.start + 1)),
         Kind::Reference => expression(alloc, text, token.start, token.end, token.end),
         Kind::Sign => Err(syntax(token.start + 1)),
         _ => Err(syntax(token.start)),
@@ -155,7 +155,7 @@ fn expression(
 
 /// The refusal of a text that begins at `start` and has no quote at its end: its own, or the
 /// condition ends too early.
-fn unended(alloc: Global, text: &str, start: usize) -> CondFault
+fn unended_fault(alloc: Global, text: &str, start: usize) -> CondFault
     requires { IsCharBoundary text.now start }
     ensures { (at : ℕ)
         → IsRefused result

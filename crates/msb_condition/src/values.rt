@@ -36,10 +36,8 @@ pub(crate) fn operand_text<F: Present>(
 fn unescaped_text(alloc: Global, lens: &Lens<'_>, expr: &Expr) -> Result<Text, CondFault>
     ensures { Gives result (unescaped_text (text_value (scene_of lens.now) expr.now.parts)) }
 {
-    match text(alloc, lens, expr) {
-        Ok(value) => Ok(unescape(alloc, value.as_str())?),
-        Err(fault) => Err(CondFault::from(fault)),
-    }
+    let value = text(alloc, lens, expr)?;
+    Ok(unescape(alloc, value.as_str())?)
 }
 
 fn function_result<F: Present>(

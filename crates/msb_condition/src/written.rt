@@ -35,11 +35,6 @@ fn text_holds<F: Present>(
     ensures { GivesCause result
         (read_holds (view_of lens.now (F.files files.now)) (condition_of written.now)) }
 {
-    match parse(alloc, written) {
-        Ok(condition) => match holds(alloc, lens, files, &condition) {
-            Ok(truth) => Ok(truth),
-            Err(fault) => Err(Cause::from(fault)),
-        },
-        Err(fault) => Err(Cause::from(fault)),
-    }
+    let condition = parse(alloc, written)?;
+    Ok(holds(alloc, lens, files, &condition)?)
 }

@@ -8,7 +8,7 @@ use std::alloc::Global;
 
 impl Element {
     /// An equal element, with all that stands below it.
-    pub fn copied(&self, alloc: Global) -> Result<Element, NoMemory>
+    pub fn copy(&self, alloc: Global) -> Result<Element, NoMemory>
         ensures { IfOk result (λ e. view e ≡ view self.now) }
     {
         copy_element(alloc, self)

@@ -46,12 +46,12 @@ fn value_of_bucket<'a>(
     ensures { IfOk result (λ value. option_copied value
         ≡ value_by (reference_key qualifier.now name.now) bucket.now.values) }
 {
-    let Some(name) = Name::written(alloc, name)? else {
+    let Some(name) = Name::look_up(alloc, name)? else {
         return Ok(None);
     };
     match qualifier {
         None => Ok(value_in(bucket.values.as_slice(), None, &name)),
-        Some(qualifier) => match Name::written(alloc, qualifier.as_str())? {
+        Some(qualifier) => match Name::look_up(alloc, qualifier.as_str())? {
             Some(kind) => Ok(value_in(bucket.values.as_slice(), Some(&kind), &name)),
             None => Ok(None),
         },

@@ -96,7 +96,7 @@ fn filter<'a>(
     ensures { GivesAs (λ seen. map seen_item seen.items) result
         (filtered project.now of.now (passes wanted.now) (map seen_item items.entry.items)) }
 {
-    let key = Name::written(alloc, of)?;
+    let key = Name::look_up(alloc, of)?;
     let mut kept = Vec::new(alloc);
     for item in items {
         let passes = item_passes(alloc, project, &key, wanted, &item)?;
@@ -116,7 +116,7 @@ fn any_passes(
     ensures { Gives result
         (any_passes project.now of.now (passes wanted.now) (map seen_item items.now)) }
 {
-    let key = Name::written(alloc, of)?;
+    let key = Name::look_up(alloc, of)?;
     for item in items {
         if item_passes(alloc, project, &key, wanted, item)? {
             return Ok(true);

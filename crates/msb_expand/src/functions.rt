@@ -40,7 +40,7 @@ impl Function {
         ensures { IfOk result (λ function. function
             ≡ option_and_then (λ key. value_at key functions) (key_of name.now)) }
     {
-        match Name::written(alloc, name)? {
+        match Name::look_up(alloc, name)? {
             Some(key) => Ok(Function::of_key(key.key())),
             None => Ok(None),
         }

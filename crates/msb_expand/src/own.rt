@@ -58,7 +58,7 @@ fn is_foreign(alloc: Global, kind: &Name, qualifier: &Option<Word>) -> Result<bo
 {
     match qualifier {
         None => Ok(false),
-        Some(qualifier) => match Name::written(alloc, qualifier.as_str())? {
+        Some(qualifier) => match Name::look_up(alloc, qualifier.as_str())? {
             Some(key) => Ok(key != *kind),
             None => Ok(true),
         },
@@ -77,7 +77,7 @@ fn default_value<'a>(
         (option_and_then (λ key. value_at key (defaults_at (scene_of lens.now) kind.now))
         (key_of name.now))) }
 {
-    match (lens.scope.defaults.get(kind), Name::written(alloc, name)?) {
+    match (lens.scope.defaults.get(kind), Name::look_up(alloc, name)?) {
         (Some(defaults), Some(key)) => Ok(text_or_empty(defaults.get(&key))),
         _ => Ok(""),
     }
@@ -95,5 +95,5 @@ fn own_value<'a>(
         (with_defaults (defaults_at (scene_of lens.now) kind.now) item.now) name.now) }
 {
     let item = Seen::of(item, lens.scope.defaults.get(kind));
-    item.metadata_named(alloc, lens.project, name)
+    item.named_metadata(alloc, lens.project, name)
 }

@@ -45,7 +45,7 @@ pub(crate) fn property<'a>(
 ) -> Result<CowText<'a>, NoMemory>
     ensures { IfOk result (λ text. cow_text text ≡ property_of (scene_of lens.now) name.now) }
 {
-    let Some(key) = Name::written(alloc, name)? else {
+    let Some(key) = Name::look_up(alloc, name)? else {
         return Ok(CowText::Borrowed(""));
     };
     match Reserved::find(key.key()) {

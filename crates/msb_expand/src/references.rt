@@ -33,7 +33,7 @@ fn named_items<'a>(alloc: Global, lens: &Lens<'a>, kind: &str) -> Result<Vec<See
     ensures { IfOk result (λ seen. map seen_item seen.items
         ≡ named_items (scene_of lens.now) (key_of kind.now)) }
 {
-    match Name::written(alloc, kind)? {
+    match Name::look_up(alloc, kind)? {
         Some(kind) => see_all(alloc, lens.items(&kind), lens.scope.defaults.get(&kind)),
         None => Ok(Vec::new(alloc)),
     }

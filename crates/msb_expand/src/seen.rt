@@ -91,7 +91,7 @@ impl<'a> Seen<'a> {
     }
 
     /// The same by the name as it is written.
-    pub(crate) fn metadata_named(
+    pub(crate) fn named_metadata(
         &self,
         alloc: Global,
         project: &str,
@@ -99,7 +99,7 @@ impl<'a> Seen<'a> {
     ) -> Result<CowText<'a>, ExpandFault>
         ensures { GivesAs cow_text result (metadata_of project.now (seen_item self.now) name.now) }
     {
-        let key = Name::written(alloc, name)?;
+        let key = Name::look_up(alloc, name)?;
         self.metadata_if(alloc, project, &key)
     }
 

@@ -137,7 +137,7 @@ fn push_value(
             grow(text, value.as_str())
         }
         Piece::Meta(name) => {
-            let value = item.metadata_named(alloc, lens.project, name.as_str())?;
+            let value = item.named_metadata(alloc, lens.project, name.as_str())?;
             grow(text, value.as_str())
         }
     }

@@ -20,10 +20,7 @@ pub fn expand_text(alloc: Global, lens: &Lens<'_>, written: &str) -> Result<Text
     ensures { GivesCause result (expanded (scene_of lens.now) written.now) }
 {
     match parse(alloc, written) {
-        Ok(expr) => match text(alloc, lens, &expr) {
-            Ok(text) => Ok(text),
-            Err(fault) => Err(Cause::from(fault)),
-        },
+        Ok(expr) => Ok(text(alloc, lens, &expr)?),
         Err(fault) => Err(expression_cause(fault)),
     }
 }
@@ -33,10 +30,7 @@ pub fn expand_entries(alloc: Global, lens: &Lens<'_>, written: &str) -> Result<L
     ensures { GivesCause result (expanded_entries (scene_of lens.now) written.now) }
 {
     match parse(alloc, written) {
-        Ok(expr) => match entries(alloc, lens, &expr) {
-            Ok(entries) => Ok(entries),
-            Err(fault) => Err(Cause::from(fault)),
-        },
+        Ok(expr) => Ok(entries(alloc, lens, &expr)?),
         Err(fault) => Err(expression_cause(fault)),
     }
 }
@@ -46,10 +40,7 @@ pub fn expand_list(alloc: Global, lens: &Lens<'_>, written: &str) -> Result<List
     ensures { GivesCause result (expanded_items (scene_of lens.now) written.now) }
 {
     match parse(alloc, written) {
-        Ok(expr) => match list(alloc, lens, &expr) {
-            Ok(items) => Ok(items),
-            Err(fault) => Err(Cause::from(fault)),
-        },
+        Ok(expr) => Ok(list(alloc, lens, &expr)?),
         Err(fault) => Err(expression_cause(fault)),
     }
 }
@@ -70,9 +61,7 @@ fn each_name(alloc: Global, items: &[Item]) -> Result<List<Name>, Cause>
     let mut names = List::new(alloc);
     for item in items {
         let name = target_name(alloc, item)?;
-        if names.push(name).is_err() {
-            return Err(Cause::Memory);
-        }
+        names.push(name)?;
     }
     Ok(names)
 }

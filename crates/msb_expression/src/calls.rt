@@ -318,12 +318,12 @@ fn arg(alloc: Global, text: &str, at: usize) -> Result<(Pieces, usize), ExprFaul
             let (pieces, end) = pieces(alloc, text, start + 1, Inside::Quoted)?;
             Ok((pieces, spaces_end(text, end)))
         }
-        _ => unquoted(alloc, text, at, start),
+        _ => unquoted_argument(alloc, text, at, start),
     }
 }
 
 /// The argument without quotes whose spaces begin at `at` and end at `start`, and where it ends.
-fn unquoted(
+fn unquoted_argument(
     alloc: Global,
     text: &str,
     at: usize,

@@ -61,7 +61,7 @@ pub(crate) fn loose(alloc: Global, text: &str, at: usize) -> Result<(Pieces, usi
     ensures within { IfOk result (λ found. found.1 ≤ length text.now) }
 {
     let (pieces, end) = loose_pieces(alloc, text, at)?;
-    Ok((trimmed(alloc, pieces.as_slice())?, end))
+    Ok((trim_pieces(alloc, pieces.as_slice())?, end))
 }
 
 /// The pieces of the argument without quotes at `at`, and where it ends.
@@ -93,7 +93,7 @@ fn loose_pieces(alloc: Global, text: &str, at: usize) -> Result<(Pieces, usize),
 }
 
 /// The pieces without the white space around them.
-fn trimmed(alloc: Global, pieces: &[Piece]) -> Result<Pieces, NoRoom>
+fn trim_pieces(alloc: Global, pieces: &[Piece]) -> Result<Pieces, NoRoom>
     ensures { IfOk result (λ kept. kept ≡ trimmed_pieces pieces.now) }
 {
     let mut kept = Pieces::new(alloc);

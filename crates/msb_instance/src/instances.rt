@@ -118,24 +118,10 @@ impl Instances {
         ensures kept { AreEvaluated tree.now.files self.new }
     {
         if let Some(instance) = self.kept.get(key) {
-            return shared(alloc, instance);
+            return Ok(instance.copy()?);
         }
         let instance = evaluate_by(alloc, tree, key, &mut self.trees)?;
-        match put(alloc, &mut self.kept, key, instance) {
-            Ok(instance) => Ok(instance),
-            Err(_) => Err(EvalFault::memory(alloc)),
-        }
-    }
-}
-
-/// The instance, which is shared with those that have it.
-fn shared(alloc: Global, instance: &InstanceRef) -> Result<InstanceRef, EvalFault>
-    ensures is { IfOk result (λ i. i ≡ instance.now) }
-    ensures gives { GivesFault seen_instance result (Ok (seen_instance instance.now)) }
-{
-    match instance.copy() {
-        Ok(instance) => Ok(instance),
-        Err(_) => Err(EvalFault::memory(alloc)),
+        Ok(put(alloc, &mut self.kept, key, instance)?)
     }
 }
 

@@ -17,9 +17,9 @@ pub(crate) fn used_targets(
     alloc: Global,
     elements: Vec<Placed>,
 ) -> Result<List<UsedTarget>, NoMemory>
-    ensures targets { IfOk result (λ made. map target_seen made
+    ensures targets { IfOk result (λ targets. map target_seen targets
         ≡ targets_of (map seen_placed elements.items)) }
-    ensures used { IfOk result (λ made. map seen_target made
+    ensures used { IfOk result (λ targets. map seen_target targets
         ≡ map (used (map seen_placed elements.items))
         (targets_of (map seen_placed elements.items))) }
 {
@@ -59,7 +59,7 @@ fn with_returns(
     last: IndexMap<Name, Placed>,
     returning: &IndexSet<Text>,
 ) -> Result<List<UsedTarget>, NoMemory>
-    ensures { IfOk result (λ made. made ≡ map (made_of returning.now.keys) last.entries) }
+    ensures { IfOk result (λ targets. targets ≡ map (made_of returning.now.keys) last.entries) }
 {
     let mut targets = List::new(alloc);
     for (name, at) in last {

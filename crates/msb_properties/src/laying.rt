@@ -57,9 +57,7 @@ pub(crate) fn lay_file(
     let Some(file) = setting.tree.find(path.as_str()) else {
         return Ok(());
     };
-    let Ok(longer) = with_file(chain, path) else {
-        return Err(EvalFault::from(NoMemory));
-    };
+    let longer = with_file(chain, path)?;
     let root = root_in(alloc, &mut layout.trees, chain, file)?;
     lay_project(alloc, setting, layout, &longer, &file.path, root)
 }
@@ -76,7 +74,7 @@ fn root_in(
     if chain.is_empty() {
         return trees.own(alloc, file);
     }
-    trees.imported(alloc, file)
+    trees.read_import(alloc, file)
 }
 
 /// The chain with one more file.

@@ -77,13 +77,8 @@ impl Layout {
             element: &element,
         };
         take_element(alloc, setting, &mut self.properties, &placed)?;
-        let Ok(file) = file.copy() else {
-            return Err(EvalFault::from(NoMemory));
-        };
-        match push_element(&mut self.elements, Placed { file, element }) {
-            Ok(()) => Ok(()),
-            Err(no_memory) => Err(EvalFault::from(no_memory)),
-        }
+        let file = file.copy()?;
+        Ok(push_element(&mut self.elements, Placed { file, element })?)
     }
 
     /// Notes that a file is laid out.

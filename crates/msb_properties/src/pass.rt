@@ -14,7 +14,7 @@ use crate::targets::{default_targets, initial_targets};
 use crate::trees::ElementTrees;
 use build_world::{EvalFault, LaidOut};
 use file_store::Tree;
-use msb_values::{InstanceKey, List, NoMemory};
+use msb_values::{InstanceKey, List};
 use std::alloc::Global;
 use std::mem;
 
@@ -32,15 +32,13 @@ pub fn property_pass(
     ensures { GivesFault seen_layout result (passed (setting tree.now.files key.now)) }
 {
     let setting = Setting { tree, key };
-    let Ok(properties) = Properties::first(alloc, &setting) else {
-        return Err(EvalFault::from(NoMemory));
-    };
+    let properties = Properties::first(alloc, &setting)?;
     let mut layout = Layout {
         properties,
         elements: Vec::new(alloc),
         files: msb_import::LaidOut::new(alloc),
         duplicates: List::new(alloc),
-        trees: taken(alloc, trees),
+        trees: take_trees(alloc, trees),
     };
     lay_own(alloc, &setting, &mut layout, trees)?;
     with_targets(alloc, &setting, layout)
@@ -62,12 +60,12 @@ fn lay_own(
 {
     let chain = List::new(alloc);
     let laid = lay_file(alloc, setting, layout, &chain, &setting.key.path);
-    *trees = taken(alloc, &mut layout.trees);
+    *trees = take_trees(alloc, &mut layout.trees);
     laid
 }
 
 /// The trees, with none left in their place.
-fn taken(alloc: Global, trees: &mut ElementTrees) -> ElementTrees {
+fn take_trees(alloc: Global, trees: &mut ElementTrees) -> ElementTrees {
     mem::replace(trees, ElementTrees::new(alloc))
 }
 

@@ -175,7 +175,7 @@ fn take_named(
 {
     match Name::read(alloc, element.element.name()) {
         Ok(name) => if is_reserved(&name) {
-            Err(reserved(alloc, element, &name))
+            Err(reserved_fault(alloc, element, &name))
         } else {
             set(alloc, setting, properties, element, name)
         },
@@ -185,7 +185,7 @@ fn take_named(
 }
 
 /// The fault of a property that the engine sets.
-fn reserved(alloc: Global, element: &PlacedElement<'_>, name: &Name) -> EvalFault
+fn reserved_fault(alloc: Global, element: &PlacedElement<'_>, name: &Name) -> EvalFault
     ensures { UnlessMemory result.cause (result
         ≡ fault_of (seen_element element.now) (Reserved name.now)) }
 {

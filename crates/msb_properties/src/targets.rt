@@ -48,10 +48,7 @@ fn add_initial(
     };
     let element = PlacedElement::of(placed);
     let more = properties.names(alloc, setting, &element, written)?;
-    match append(names, more.as_slice()) {
-        Ok(()) => Ok(()),
-        Err(no_memory) => Err(EvalFault::from(no_memory)),
-    }
+    Ok(append(names, more.as_slice())?)
 }
 
 fn append(names: &mut List<Name>, more: &[Name]) -> Result<(), NoMemory>

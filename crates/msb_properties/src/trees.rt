@@ -26,7 +26,7 @@ impl KeptTree {
         requires { project_of file.now ≡ Ok (view root.now) }
     {
         let bytes = file.bytes.copy()?;
-        let root = root.copied(alloc)?;
+        let root = root.copy(alloc)?;
         Ok(KeptTree { bytes, root })
     }
 
@@ -38,7 +38,7 @@ impl KeptTree {
         if self.bytes.as_bytes() != bytes {
             return Ok(None);
         }
-        Ok(Some(self.root.copied(alloc)?))
+        Ok(Some(self.root.copy(alloc)?))
     }
 }
 
@@ -71,10 +71,10 @@ impl ElementTrees {
 
     /// The root of a file that is imported, or which element of it has the first fault. Where there
     /// is no memory to keep the tree, that is want of memory.
-    pub(crate) fn imported(&mut self, alloc: Global, file: &File) -> Result<Element, EvalFault>
+    pub(crate) fn read_import(&mut self, alloc: Global, file: &File) -> Result<Element, EvalFault>
         ensures { GivesFault view result (project_of file.now) }
     {
-        match self.found(alloc, file)? {
+        match self.copy_of(alloc, file)? {
             Some(root) => Ok(root),
             None => self.read(alloc, file),
         }
@@ -85,14 +85,14 @@ impl ElementTrees {
         ensures { GivesFault view result (project_of file.now) }
     {
         if self.trees.contains_key(file.path.as_str()) {
-            return self.imported(alloc, file);
+            return self.read_import(alloc, file);
         }
         self.put(alloc, file, None)?;
         root_of(alloc, file)
     }
 
     /// A copy of the tree that is kept of this file, if one is.
-    fn found(&self, alloc: Global, file: &File) -> Result<Option<Element>, NoMemory>
+    fn copy_of(&self, alloc: Global, file: &File) -> Result<Option<Element>, NoMemory>
         ensures { IfOk result (λ found.
             IfSome found (λ root. project_of file.now ≡ Ok (view root))) }
     {

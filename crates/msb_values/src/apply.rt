@@ -8,7 +8,7 @@ ghost use Rattle.msb_values.specs.declared.change.Change.TheVariants.{
 ghost use Rattle.msb_values.specs.Pairs.{changed_at};
 ghost use Rattle.msb_values.specs.Changes.{applied, with_added, without_named, with_metadata_on};
 
-use crate::changed_items::{with_metadata_on, without_named};
+use crate::changed_items::{items_except, with_metadata_on};
 use crate::name_map::NameMap;
 use crate::{Change, Copied, Item, List, Lists, Name, NoMemory, Pairs, Scope, SharedItems, Text};
 use std::alloc::Global;
@@ -137,7 +137,7 @@ fn remove_items(
     match lists.get(kind) {
         None => Ok(()),
         Some(items) => {
-            let kept = without_named(alloc, items.as_slice(), texts.as_slice())?;
+            let kept = items_except(alloc, items.as_slice(), texts.as_slice())?;
             lists.replace(kind, SharedItems::of(alloc, kept)?)?;
             Ok(())
         }

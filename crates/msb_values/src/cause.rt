@@ -1,9 +1,10 @@
 ghost use Rattle.std.specs.Prelude.{◌≡◌, ◌++◌, IfOk, OnOk, string_bytes};
 ghost use Rattle.std.specs.Fmt.{decimal};
 ghost use Rattle.msb_values.specs.Causes.{detail};
+ghost use Rattle.msb_values.specs.declared.cause.Cause.TheVariants.{Memory};
 
 use crate::{NoMemory, Text};
-use std::alloc::Global;
+use std::alloc::{AllocError, AllocFailed, Global};
 use std::fmt::Write;
 
 /// Why a project is refused, or why a run fails.
@@ -108,11 +109,35 @@ impl Drop for Cause {
     }
 }
 
+impl From<NoMemory> for Cause {
+    ghost from_gives = { λ _ cause. cause ≡ Memory };
+
+    fn from(_: NoMemory) -> Self {
+        Cause::Memory
+    }
+}
+
+impl From<AllocError> for Cause {
+    ghost from_gives = { λ _ cause. cause ≡ Memory };
+
+    fn from(_: AllocError) -> Self {
+        Cause::Memory
+    }
+}
+
+impl<T: Drop> From<AllocFailed<T>> for Cause {
+    ghost from_gives = { λ _ cause. cause ≡ Memory };
+
+    fn from(_: AllocFailed<T>) -> Self {
+        Cause::Memory
+    }
+}
+
 impl Cause {
     ghost use Rattle.msb_values.specs.Causes.{shown_of, label_of, details_of};
 
     /// The number, the name and the details, with one space between, as they are printed.
-    pub fn shown(&self, alloc: Global) -> Result<Text, NoMemory>
+    pub fn to_text(&self, alloc: Global) -> Result<Text, NoMemory>
         ensures { IfOk result (λ t. t ≡ shown_of self.now) }
     {
         let mut shown = String::from_str(alloc, self.label())?;

@@ -18,7 +18,7 @@ use std::collections::HashSet;
 use std::hash::Hash;
 
 /// The items whose identities equal none of the texts without case.
-pub(crate) fn without_named(
+pub(crate) fn items_except(
     alloc: Global,
     items: &[Item],
     texts: &[Text],

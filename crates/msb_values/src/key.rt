@@ -19,7 +19,7 @@ impl InstanceKey {
 
     /// The path, and behind it the global properties in brackets if there are any, as a report
     /// names the instance.
-    pub fn shown(&self, alloc: Global) -> Result<Text, NoMemory>
+    pub fn to_text(&self, alloc: Global) -> Result<Text, NoMemory>
         ensures { IfOk result (λ t. t ≡ key_text self.now) }
     {
         let mut shown = String::from_str(alloc, self.path.as_str())?;

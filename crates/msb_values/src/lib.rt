@@ -52,7 +52,7 @@ pub use mode::Mode;
 pub use name::{Name, bad_name, bad_target_name};
 pub use named::{Defaults, Lists, Named, Pairs};
 pub use note::Note;
-pub use overlay::{overlaid, put_all_missing};
+pub use overlay::{put_all_missing, with_defaults};
 pub use put::Put;
 pub use same::same_text;
 pub use scope::Scope;

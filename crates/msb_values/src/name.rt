@@ -59,7 +59,7 @@ impl Name {
 
     /// The name that a text is, as it is looked up; a text that is none names nothing. (MSBuild
     /// properties.)
-    pub fn written(alloc: Global, text: &str) -> Result<Option<Name>, NoMemory>
+    pub fn look_up(alloc: Global, text: &str) -> Result<Option<Name>, NoMemory>
         ensures { IfOk result (λ name. name ≡ key_of text.now) }
     {
         match Name::read(alloc, text) {

@@ -6,7 +6,7 @@ use crate::{Copied, Name, NoMemory, Pairs, Text};
 
 /// An item's own metadata, and the defaults that it does not have itself. (MSBuild item
 /// definitions.)
-pub fn overlaid(defaults: &Pairs, own: &Pairs) -> Result<Pairs, NoMemory>
+pub fn with_defaults(defaults: &Pairs, own: &Pairs) -> Result<Pairs, NoMemory>
     ensures { IfOk result (λ meta. meta ≡ overlaid defaults.now own.now) }
 {
     let mut meta = own.copy()?;

@@ -12,5 +12,5 @@ mod shape;
 
 pub use ages::pair_is_old;
 pub use decision::{Choice, decide};
-pub use inference::inferred;
+pub use inference::infer;
 pub use shape::item_type;

@@ -35,7 +35,7 @@ fn whole_list(alloc: Global, parts: &[Part]) -> Result<Option<Name>, NoMemory>
     ensures { IfOk result (λ kind. kind ≡ whole_list parts.now) }
 {
     match parts {
-        [Part::Items(kind, steps, None)] if steps.is_empty() => Name::written(alloc, kind.as_str()),
+        [Part::Items(kind, steps, None)] if steps.is_empty() => Name::look_up(alloc, kind.as_str()),
         _ => Ok(None),
     }
 }
@@ -46,7 +46,7 @@ fn whole_transform(alloc: Global, parts: &[Part]) -> Result<Option<Name>, NoMemo
 {
     match parts {
         [Part::Items(kind, steps, None)] => match steps.as_slice() {
-            [Step::Transform(..)] => Name::written(alloc, kind.as_str()),
+            [Step::Transform(..)] => Name::look_up(alloc, kind.as_str()),
             _ => Ok(None),
         },
         _ => Ok(None),

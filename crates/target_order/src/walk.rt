@@ -142,7 +142,7 @@ impl OrderWalk {
     }
 
     /// Whether a body has failed, or the last ask was Circle or Unknown.
-    pub fn failed(&self) -> bool
+    pub fn has_failed(&self) -> bool
         ensures { result ≡ self.now.failed }
     {
         self.failed

@@ -4,7 +4,6 @@ ghost use Rattle.std.specs.Prelude.{
   List,
   Result,
   Some,
-  codes,
   length,
   IfOk,
   option_copied,
@@ -12,7 +11,7 @@ ghost use Rattle.std.specs.Prelude.{
 ghost use Rattle.std.specs.List.{zip};
 ghost use Rattle.msb_laws.specs.Results.{all_ok};
 ghost use Rattle.msb_paths.specs.Parts.{filename, extension};
-ghost use Rattle.task_trait.specs.Answers.{Gives, UnlessMemory};
+ghost use Rattle.task_trait.specs.Answers.{Gives};
 ghost use Rattle.task_trait.specs.declared.failures.Failure.TheVariants.{MissingSource};
 ghost use Rattle.task_trait.specs.declared.failures.Failure.{Failure};
 ghost use Rattle.task_kit.specs.declared.copies.Destination.{Destination};
@@ -26,7 +25,6 @@ ghost use Rattle.task_kit.specs.Copies.{
   copied_to,
   copy,
   copy_outputs,
-  counted,
   destination_at,
   is_unchanged,
   item_copied,
@@ -38,7 +36,7 @@ ghost use Rattle.task_kit.specs.Copies.{
 ghost use Rattle.task_kit.specs.Progress.{Acts, Makes, made_by};
 
 use crate::paths::path_in;
-use crate::progress::{TaskProgress, output, output_with, succeeded};
+use crate::progress::{TaskProgress, output, output_with, success};
 use msb_files::FileView;
 use msb_paths::{NoRoom, join, parts};
 use msb_values::{Copied, Item, List, NoMemory, Put, Shared, Text, Text8};
@@ -89,7 +87,7 @@ pub(crate) fn copy(
     let skip = truth_at(alloc, params, "skipunchangedfiles")?;
     let sources = all_sources(alloc, dir, items)?;
     let to = choose_destinations(named, !folder.is_empty(), below);
-    copied_to(alloc, view, skip, written, sources.as_slice(), to)
+    copy_to(alloc, view, skip, written, sources.as_slice(), to)
 }
 
 fn named_destinations(
@@ -101,13 +99,13 @@ fn named_destinations(
 {
     let mut all = List::new(alloc);
     for item in items {
-        let named = named_at(alloc, dir, item)?;
+        let named = destination_for(alloc, dir, item)?;
         all.push(named)?;
     }
     Ok(all)
 }
 
-fn named_at(alloc: Global, dir: &str, item: &Item) -> Result<Destination, Failure>
+fn destination_for(alloc: Global, dir: &str, item: &Item) -> Result<Destination, Failure>
     ensures { Gives result (named_at dir.now item.now) }
 {
     destination_at(alloc, dir, "destinationfiles", item.ident.as_str())
@@ -147,10 +145,8 @@ fn each_below(
 fn below_at(alloc: Global, dir: &str, folder: &str, source: &Item) -> Result<Destination, Failure>
     ensures { Gives result (below_at dir.now folder.now source.now) }
 {
-    match text_below(alloc, folder, source.ident.as_str()) {
-        Ok(text) => destination_at(alloc, dir, "destinationfolder", text.as_str()),
-        Err(NoMemory) => Err(Failure::Memory),
-    }
+    let text = text_below(alloc, folder, source.ident.as_str())?;
+    destination_at(alloc, dir, "destinationfolder", text.as_str())
 }
 
 /// The file's Filename and Extension in the folder.
@@ -225,7 +221,7 @@ fn choose_destinations(
 }
 
 /// The sources at as many destinations; without sources nothing is copied, wherever to.
-fn copied_to(
+fn copy_to(
     alloc: Global,
     view: &FileView<'_>,
     skip: bool,
@@ -261,7 +257,7 @@ fn copy_all(
     let mut progress = TaskProgress::new(alloc, written);
     let work = copy_each(alloc, view, skip, &mut progress, sources, destinations);
     let outputs = copy_outputs(alloc, progress.items.as_slice())?;
-    Ok(output_with(alloc, "copy", succeeded(alloc, outputs), progress, work)?)
+    Ok(output_with(alloc, "copy", success(alloc, outputs), progress, work)?)
 }
 
 /// The copied items under both names of the task's outputs.
@@ -305,16 +301,7 @@ fn copy_one(
 {
     match view.content(source.path.as_str()) {
         Some(bytes) => copy_bytes(alloc, view, skip, progress, bytes, source, destination),
-        None => Err(missing(alloc, source.item.ident.as_str())),
-    }
-}
-
-fn missing(alloc: Global, path: &str) -> Failure
-    ensures { UnlessMemory result (result ≡ MissingSource path.now) }
-{
-    match Text::of(alloc, path) {
-        Ok(path) => Failure::MissingSource(path),
-        Err(NoMemory) => Failure::Memory,
+        None => Err(Failure::MissingSource(source.item.ident.copy()?)),
     }
 }
 
@@ -331,7 +318,7 @@ fn copy_bytes(
         (copied_from (Some bytes.now) view.now skip progress.old (source.now, destination.now)) }
 {
     write_at(alloc, view, skip, progress, bytes, destination)?;
-    progress.items.push(item_copied(source, destination)?)?;
+    progress.items.push(copied_item(source, destination)?)?;
     Ok(())
 }
 
@@ -367,7 +354,7 @@ fn is_unchanged(held: Option<&[u8]>, bytes: &[u8]) -> bool
 }
 
 /// The source's item at its destination.
-fn item_copied(source: &Source, destination: &Destination) -> Result<Item, NoMemory>
+fn copied_item(source: &Source, destination: &Destination) -> Result<Item, NoMemory>
     ensures { IfOk result (λ item. item ≡ item_copied source.now destination.now) }
 {
     Ok(Item {

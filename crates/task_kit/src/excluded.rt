@@ -18,7 +18,7 @@ use std::alloc::Global;
 
 /// What the entries of Exclude name, among which are these patterns. (CreateItem task; MSBuild
 /// items, wildcards to specify items.)
-pub(crate) fn names_excluded(
+pub(crate) fn excluded_names(
     alloc: Global,
     patterns: List<Pattern>,
     entries: &[Item],
@@ -42,7 +42,7 @@ fn insert_idents(alloc: Global, names: &mut ItemNames, entries: &[Item]) -> Resu
 }
 
 /// The items that are not named.
-pub(crate) fn less_excluded(
+pub(crate) fn without_excluded(
     alloc: Global,
     dir: &str,
     names: &ItemNames,

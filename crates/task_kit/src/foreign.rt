@@ -1,6 +1,6 @@
 ghost use Rattle.std.specs.Prelude.{◌≡◌, IfOk, option_copied};
 ghost use Rattle.msb_laws.specs.Results.{all_ok};
-ghost use Rattle.task_trait.specs.Answers.{Gives, GivesAs, UnlessMemory};
+ghost use Rattle.task_trait.specs.Answers.{Gives};
 ghost use Rattle.task_kit.specs.Foreign.{acted_by_tool, file_at, foreign_input, foreign_output};
 ghost use Rattle.task_kit.specs.Progress.{Acts, Makes, made_by, output_with, started};
 
@@ -117,10 +117,7 @@ fn act_all(alloc: Global, progress: &mut TaskProgress, acts: Vec<Act>) -> Result
 fn act_once(alloc: Global, progress: &mut TaskProgress, act: Act) -> Result<(), Failure>
     ensures { Acts result progress.old progress.new (acted_by_tool progress.old act) }
 {
-    let path = match Text::of(alloc, act.path()) {
-        Ok(path) => path,
-        Err(NoMemory) => return Err(Failure::Memory),
-    };
+    let path = Text::of(alloc, act.path())?;
     if !is_normal(act.path()) {
         return Err(Failure::BadPath(path));
     }

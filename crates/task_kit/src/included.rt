@@ -20,15 +20,17 @@ ghost use Rattle.task_kit.specs.Included.{
   pattern_in,
 };
 
-use crate::excluded::{less_excluded, names_excluded};
-use crate::patterns::{is_pattern_entry, pattern_in, patterns_excluded};
-use crate::progress::{output, succeeded};
+use crate::excluded::{excluded_names, without_excluded};
+use crate::patterns::{excluded_patterns, is_pattern_entry, pattern_in};
+use crate::progress::{output, success};
 use msb_expand::is_well_known;
 use msb_files::FileView;
 use msb_glob::{Match, Pattern, SortedPaths, expand_in};
 use msb_values::{Copied, Item, List, Name, NoMemory, Pairs, Text, unescape};
 use std::alloc::Global;
-use task_trait::{Failure, Param, TaskOutput, bad, check_known, items_of, needed_items, pair_of};
+use task_trait::{
+    Failure, Param, TaskOutput, bad_parameter, check_known, items_of, needed_items, pair_of,
+};
 
 /// The items of the entries, less those that Exclude names, with the metadata that are given.
 /// (CreateItem task.)
@@ -43,12 +45,12 @@ pub(crate) fn create_item(
     check_known(alloc, "createitem", params)?;
     let entries = needed_items(alloc, params, "include")?;
     let metadata = all_metadata(alloc, items_of(params, "additionalmetadata"))?;
-    let items = items_created(alloc, dir, view, entries, items_of(params, "exclude"))?;
+    let items = create_items(alloc, dir, view, entries, items_of(params, "exclude"))?;
     Ok(inclusion_output(alloc, metadata.as_slice(), items)?)
 }
 
 /// The items of the entries, less those that Exclude names.
-fn items_created(
+fn create_items(
     alloc: Global,
     dir: &str,
     view: &FileView<'_>,
@@ -58,10 +60,10 @@ fn items_created(
     ensures { GivesAs (λ items. items.items) result
         (items_created dir.now (paths view.now) entries.now excluded.now) }
 {
-    let patterns = patterns_excluded(alloc, dir, excluded)?;
-    let items = items_included(alloc, dir, view, entries)?;
-    let names = names_excluded(alloc, patterns, excluded)?;
-    Ok(less_excluded(alloc, dir, &names, items.into_vec())?)
+    let patterns = excluded_patterns(alloc, dir, excluded)?;
+    let items = included_items(alloc, dir, view, entries)?;
+    let names = excluded_names(alloc, patterns, excluded)?;
+    Ok(without_excluded(alloc, dir, &names, items.into_vec())?)
 }
 
 /// The output with these items, each with these metadata.
@@ -77,7 +79,7 @@ fn inclusion_output(
     let items = with_all_metadata(alloc, metadata, items)?;
     let mut outputs = List::new(alloc);
     outputs.push(output(alloc, "include", items)?)?;
-    Ok(succeeded(alloc, outputs))
+    Ok(success(alloc, outputs))
 }
 
 fn all_metadata(alloc: Global, entries: &[Item]) -> Result<List<(Name, Text)>, Failure>
@@ -98,11 +100,11 @@ fn metadata_in(alloc: Global, entry: &Item) -> Result<(Name, Text), Failure>
     match pair_of(alloc, entry.ident.as_str())? {
         Some((name, value)) => {
             if is_computed(&name) {
-                return Err(bad(alloc, "additionalmetadata"));
+                return Err(bad_parameter(alloc, "additionalmetadata")?);
             }
             Ok((name, value))
         }
-        None => Err(bad(alloc, "additionalmetadata")),
+        None => Err(bad_parameter(alloc, "additionalmetadata")?),
     }
 }
 
@@ -129,7 +131,7 @@ fn is_left_out(name: &str) -> bool
 }
 
 /// The items of the entries of Include, one entry after another.
-fn items_included(
+fn included_items(
     alloc: Global,
     dir: &str,
     view: &FileView<'_>,
@@ -219,13 +221,13 @@ fn push_each(
     ensures { OnOk result (items.new ≡ items.old ++ map (item_matched entry.now) matches.now) }
 {
     for found in matches {
-        items.push(item_matched(alloc, entry, found)?)?;
+        items.push(matched_item(alloc, entry, found)?)?;
     }
     Ok(())
 }
 
 /// What a match makes of its entry, without escapes.
-fn item_matched(alloc: Global, entry: &Item, found: &Match) -> Result<Item, NoMemory>
+fn matched_item(alloc: Global, entry: &Item, found: &Match) -> Result<Item, NoMemory>
     ensures { IfOk result (λ item. item ≡ item_matched entry.now found.now) }
 {
     Ok(Item {

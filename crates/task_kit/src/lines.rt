@@ -11,7 +11,7 @@ ghost use Rattle.task_kit.specs.Lines.{
 ghost use Rattle.task_kit.specs.Progress.{Acts};
 
 use crate::paths::path_in;
-use crate::progress::{TaskProgress, output_with, succeeded};
+use crate::progress::{TaskProgress, output_with, success};
 use msb_files::FileView;
 use msb_values::{Item, List, NoMemory, Put, Shared, Text, Text8};
 use std::alloc::Global;
@@ -60,7 +60,7 @@ fn output_written(
 {
     let mut progress = TaskProgress::new(alloc, written);
     let work = write_file(alloc, view, writing, path, &mut progress);
-    let output = succeeded(alloc, List::new(alloc));
+    let output = success(alloc, List::new(alloc));
     Ok(output_with(alloc, "writelinestofile", output, progress, work)?)
 }
 

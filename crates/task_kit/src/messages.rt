@@ -10,10 +10,10 @@ ghost use Rattle.task_kit.specs.Messages.{
   warning,
 };
 
-use crate::progress::{output, succeeded};
+use crate::progress::{output, success};
 use msb_values::{List, NoMemory, Note, Text, same_text};
 use std::alloc::Global;
-use task_trait::{Failure, Param, TaskOutput, bad, check_known, items_of, text_of};
+use task_trait::{Failure, Param, TaskOutput, bad_parameter, check_known, items_of, text_of};
 
 /// A note of the Text, by the Importance. (Message task.)
 pub(crate) fn message(alloc: Global, params: &[Param]) -> Result<TaskOutput, Failure>
@@ -22,7 +22,7 @@ pub(crate) fn message(alloc: Global, params: &[Param]) -> Result<TaskOutput, Fai
     check_known(alloc, "message", params)?;
     match is_low(text_of(params, "importance")) {
         Some(low) => Ok(said(alloc, message_note(alloc, text_of(params, "text"), low)?)?),
-        None => Err(bad(alloc, "importance")),
+        None => Err(bad_parameter(alloc, "importance")?),
     }
 }
 
@@ -75,7 +75,7 @@ pub(crate) fn create_property(alloc: Global, params: &[Param]) -> Result<TaskOut
     let items = List::of(alloc, items_of(params, "value"))?;
     let mut outputs = List::new(alloc);
     outputs.push(output(alloc, "value", items)?)?;
-    Ok(succeeded(alloc, outputs))
+    Ok(success(alloc, outputs))
 }
 
 fn said(alloc: Global, note: Note) -> Result<TaskOutput, NoMemory>

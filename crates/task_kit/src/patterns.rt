@@ -12,7 +12,7 @@ ghost use Rattle.task_kit.specs.Included.{
 use msb_glob::{GlobFault, Pattern, is_pattern};
 use msb_values::{Item, List, NoMemory, Text};
 use std::alloc::Global;
-use task_trait::{Failure, bad};
+use task_trait::{Failure, bad_parameter};
 
 /// Whether an entry is a pattern.
 pub(crate) fn is_pattern_entry(entry: &Item) -> bool
@@ -34,8 +34,8 @@ pub(crate) fn pattern_in(
     match Pattern::parse(alloc, dir, text.as_str()) {
         Ok(pattern) => Ok(pattern),
         Err(GlobFault::Memory) => Err(Failure::Memory),
-        Err(GlobFault::StarsInSegment) => Err(bad(alloc, name)),
-        Err(GlobFault::Path(_)) => Err(bad(alloc, name)),
+        Err(GlobFault::StarsInSegment) => Err(bad_parameter(alloc, name)?),
+        Err(GlobFault::Path(_)) => Err(bad_parameter(alloc, name)?),
     }
 }
 
@@ -64,7 +64,7 @@ fn cut_at_percent(text: &str) -> Option<(&str, &str)>
 }
 
 /// The patterns among the entries of Exclude.
-pub(crate) fn patterns_excluded(
+pub(crate) fn excluded_patterns(
     alloc: Global,
     dir: &str,
     entries: &[Item],

@@ -1,6 +1,5 @@
 ghost use Rattle.std.specs.Prelude.{◌≡◌, ◌+◌, ◌<◌, ◌^◌, true, Some, Result, Err, IfOk};
 ghost use Rattle.msb_values.specs.Keys.{key_of};
-ghost use Rattle.task_trait.specs.Answers.{UnlessMemory};
 ghost use Rattle.task_trait.specs.Tools.{act_size};
 ghost use Rattle.task_trait.specs.declared.failures.Failure.TheVariants.{TooLarge, Memory};
 ghost use Rattle.task_trait.specs.declared.failures.Failure.{Failure};
@@ -85,7 +84,7 @@ impl TaskProgress {
         ensures { Acts result self.old self.new (with_act text.now act self.old) }
     {
         if !fits(&act, self.written) {
-            return Err(too_large(alloc, text));
+            return Err(Failure::TooLarge(Text::of(alloc, text)?));
         }
         let size = act_size(&act);
         self.acts.push(act)?;
@@ -122,15 +121,6 @@ fn has_room(written: u64, size: u64) -> bool
     size <= FILE_LIMIT && written <= RUN_LIMIT - size
 }
 
-fn too_large(alloc: Global, text: &str) -> Failure
-    ensures { UnlessMemory result (result ≡ TooLarge text.now) }
-{
-    match Text::of(alloc, text) {
-        Ok(text) => Failure::TooLarge(text),
-        Err(NoMemory) => Failure::Memory,
-    }
-}
-
 /// An output of this name, which is in lower case.
 pub(crate) fn output(
     alloc: Global,
@@ -140,14 +130,14 @@ pub(crate) fn output(
     requires { key_of name.now ≡ Some name.now }
     ensures { IfOk result (λ param. param ≡ record { name = name.now; items = items }) }
 {
-    match Name::written(alloc, name)? {
+    match Name::look_up(alloc, name)? {
         Some(name) => Ok(Param { name, items }),
         None => unreachable!(),
     }
 }
 
 /// The output of a task that does what it is to do.
-pub(crate) fn succeeded(alloc: Global, outputs: List<Param>) -> TaskOutput
+pub(crate) fn success(alloc: Global, outputs: List<Param>) -> TaskOutput
     ensures { result ≡ succeeded outputs }
 {
     TaskOutput {
@@ -179,11 +169,11 @@ pub(crate) fn output_with(
             acts: progress.into_acts(),
             notes: output.notes,
         }),
-        Err(failure) => failed_with(alloc, task, output, progress, &failure),
+        Err(failure) => failed_output(alloc, task, output, progress, &failure),
     }
 }
 
-fn failed_with(
+fn failed_output(
     alloc: Global,
     task: &str,
     output: TaskOutput,

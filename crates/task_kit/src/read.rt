@@ -1,11 +1,11 @@
 ghost use Rattle.std.specs.Prelude.{◌≡◌, Some, IfOk, option_copied};
 ghost use Rattle.msb_expand.specs.Functions.{plain_item};
-ghost use Rattle.task_trait.specs.Answers.{Gives, UnlessMemory};
+ghost use Rattle.task_trait.specs.Answers.{Gives};
 ghost use Rattle.task_trait.specs.declared.failures.Failure.TheVariants.{NotText};
 ghost use Rattle.task_kit.specs.Read.{lines_in, lines_output, lines_read, read_lines};
 
 use crate::paths::path_in;
-use crate::progress::{output, succeeded};
+use crate::progress::{output, success};
 use msb_files::FileView;
 use msb_values::{Item, List, NoMemory, Pairs, Text, trim};
 use std::alloc::Global;
@@ -41,16 +41,7 @@ fn lines_of_bytes(alloc: Global, file: &str, bytes: &[u8]) -> Result<TaskOutput,
 {
     match str::from_utf8(bytes) {
         Ok(text) => Ok(lines_output(alloc, lines_in(alloc, text)?)?),
-        Err(_) => Err(not_text(alloc, file)),
-    }
-}
-
-fn not_text(alloc: Global, path: &str) -> Failure
-    ensures { UnlessMemory result (result ≡ NotText path.now) }
-{
-    match Text::of(alloc, path) {
-        Ok(path) => Failure::NotText(path),
-        Err(NoMemory) => Failure::Memory,
+        Err(_) => Err(Failure::NotText(Text::of(alloc, file)?)),
     }
 }
 
@@ -73,7 +64,7 @@ fn lines_output(alloc: Global, items: List<Item>) -> Result<TaskOutput, NoMemory
 {
     let mut outputs = List::new(alloc);
     outputs.push(output(alloc, "lines", items)?)?;
-    Ok(succeeded(alloc, outputs))
+    Ok(success(alloc, outputs))
 }
 
 /// An item without metadata.

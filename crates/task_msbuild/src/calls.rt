@@ -29,7 +29,7 @@ pub(crate) fn is_there(tree: &Tree, project: &Project) -> bool
 
 /// The projects that are looked up: where the first that is missing ends the list, those through
 /// it.
-pub(crate) fn looked_up<'a>(tree: &Tree, parameters: &'a Parameters) -> &'a [Project]
+pub(crate) fn look_up<'a>(tree: &Tree, parameters: &'a Parameters) -> &'a [Project]
     ensures { result.now ≡ looked_up tree.now.files parameters.now }
 {
     let projects = parameters.projects.as_slice();
@@ -69,7 +69,7 @@ pub(crate) fn all_calls(
 {
     let shared = shared_globals(globals, parameters)?;
     let lists = target_lists(alloc, parameters)?;
-    let projects = looked_up(tree, parameters);
+    let projects = look_up(tree, parameters);
     calls_of(alloc, tree, &shared, lists.as_slice(), projects)
 }
 

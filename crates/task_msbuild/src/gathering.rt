@@ -128,7 +128,7 @@ fn failure(alloc: Global, key: &RequestKey, given: &RequestResult) -> Result<Tex
 fn said(alloc: Global, key: &RequestKey, text: &str) -> Result<Text, NoMemory>
     ensures { IfOk result (λ said. said ≡ said_of key.now text.now) }
 {
-    let mut said = key.instance.shown(alloc)?;
+    let mut said = key.instance.to_text(alloc)?;
     said.push_str(": ")?;
     said.push_str(text)?;
     Ok(said)

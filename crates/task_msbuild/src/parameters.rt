@@ -15,7 +15,7 @@ use crate::project::{Project, ProjectItem};
 use crate::properties::{names, properties};
 use msb_values::{Copied, Item, List, Name, NameFault, NoMemory, Text};
 use std::alloc::Global;
-use task_trait::{Failure, Param, bad, check_known, items_of, needed_items, truth_at};
+use task_trait::{Failure, Param, bad_parameter, check_known, items_of, needed_items, truth_at};
 
 /// The parameters of the task as it uses them. (MSBuild task.)
 pub(crate) struct Parameters {
@@ -91,7 +91,7 @@ fn or_bad<T: Drop>(alloc: Global, name: &str, value: Option<T>) -> Result<T, Fai
 {
     match value {
         Some(value) => Ok(value),
-        None => Err(bad(alloc, name)),
+        None => Err(bad_parameter(alloc, name)?),
     }
 }
 

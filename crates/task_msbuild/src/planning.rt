@@ -8,7 +8,7 @@ ghost use Rattle.task_msbuild.specs.Plans.{
 };
 
 use crate::Plan;
-use crate::calls::{all_calls, is_there, looked_up};
+use crate::calls::{all_calls, is_there, look_up};
 use crate::parameters::Parameters;
 use crate::project::Project;
 use file_store::Tree;
@@ -86,7 +86,7 @@ fn missing_notes(
     ensures { IfOk result (λ notes. notes ≡ all_missing_notes tree.now.files parameters.now) }
 {
     let mut notes = List::new(alloc);
-    for project in looked_up(tree, parameters) {
+    for project in look_up(tree, parameters) {
         push_missing(alloc, &mut notes, tree, parameters.skip_missing, project)?;
     }
     Ok(notes)

@@ -50,12 +50,12 @@ impl Plan {
         }
     }
 
-    fn waiting(&self, made: usize) -> &[RequestKey]
-        ensures { result.now ≡ drop made self.now.calls }
+    fn waiting(&self, answered: usize) -> &[RequestKey]
+        ensures { result.now ≡ drop answered self.now.calls }
     {
         let calls = self.calls.as_slice();
-        if made < calls.len() {
-            &calls[made..]
+        if answered < calls.len() {
+            &calls[answered..]
         } else {
             &[]
         }

@@ -69,7 +69,7 @@ pub(crate) fn names(alloc: Global, entries: &[Text]) -> Result<Option<List<Name>
 {
     let mut names = List::new(alloc);
     for entry in entries {
-        match Name::written(alloc, entry.as_str())? {
+        match Name::look_up(alloc, entry.as_str())? {
             Some(name) => names.push(name)?,
             None => return Ok(None),
         }

@@ -13,7 +13,7 @@ mod tools;
 pub use escaping::{handed_items, taken_items};
 pub use failures::Failure;
 pub use params::{
-    bad, check_known, items_of, needed_items, needed_text, pair_of, text_of, truth_at,
+    bad_parameter, check_known, items_of, needed_items, needed_text, pair_of, text_of, truth_at,
 };
 pub use rows::takes_list;
 pub use tools::{

@@ -1,5 +1,5 @@
 ghost use Rattle.std.specs.Prelude.{◌≡◌, Some, option_map, IfOk, option_copied};
-ghost use Rattle.task_trait.specs.Answers.{Checks, Gives, GivesAs, UnlessMemory};
+ghost use Rattle.task_trait.specs.Answers.{Checks, Gives, GivesAs};
 ghost use Rattle.task_trait.specs.declared.failures.Failure.TheVariants.{BadParameter};
 ghost use Rattle.task_trait.specs.Params.{
   check_known,
@@ -132,18 +132,15 @@ pub fn truth_at(alloc: Global, params: &[Param], name: &str) -> Result<bool, Fai
     }
     match truth_of(text) {
         Some(truth) => Ok(truth),
-        None => Err(bad(alloc, name)),
+        None => Err(bad_parameter(alloc, name)?),
     }
 }
 
 /// The failure of a parameter whose value the task cannot use.
-pub fn bad(alloc: Global, name: &str) -> Failure
-    ensures { UnlessMemory result (result ≡ BadParameter name.now) }
+pub fn bad_parameter(alloc: Global, name: &str) -> Result<Failure, NoMemory>
+    ensures { IfOk result (λ failure. failure ≡ BadParameter name.now) }
 {
-    match Text::of(alloc, name) {
-        Ok(name) => Failure::BadParameter(name),
-        Err(NoMemory) => Failure::Memory,
-    }
+    Ok(Failure::BadParameter(Text::of(alloc, name)?))
 }
 
 /// An entry `N=V`, cut at the first `=`: N is a name, and V may be any text. Another text gives
@@ -166,7 +163,7 @@ fn cut_at_equals(text: &str) -> Option<(&str, &str)>
 fn with_key(alloc: Global, name: &str, value: &str) -> Result<Option<(Name, Text)>, NoMemory>
     ensures { IfOk result (λ pair. pair ≡ with_key (name.now, value.now)) }
 {
-    match Name::written(alloc, name)? {
+    match Name::look_up(alloc, name)? {
         Some(name) => Ok(Some((name, Text::of(alloc, value)?))),
         None => Ok(None),
     }

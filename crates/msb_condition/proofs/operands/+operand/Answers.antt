@@ -22,11 +22,11 @@ operand_of-returns-in-Quoted-clause-leads t c = λ frames room.
 
 pub operand_of-returns-in-Unended-clause-leads : goal.operand_of-returns-in-Unended-clause-leads
 operand_of-returns-in-Unended-clause-leads t c = λ frames room.
-    subst (λ next. IsRefused c.unended.result (step_at c.args.text.now next c.args.token.end))
+    subst (λ next. IsRefused c.unended_fault.result (step_at c.args.text.now next c.args.token.end))
     (sym
     (unended_step c.args.text.now frames c.args.token.kind c.args.token.start c.args.token.end
     c.in-Unended.is c.requires.1.1.1.1))
-    (c.unended.ensures c.args.token.end)
+    (c.unended_fault.ensures c.args.token.end)
 
 pub function_at-returns-in-None-clause-leads : goal.function_at-returns-in-None-clause-leads
 function_at-returns-in-None-clause-leads t c = λ frames room.

@@ -26,5 +26,5 @@ returns-in_ok-pieces-in-Quote-clause-leads c = λ a w.
     ∙ c.in_ok-pieces-in-Quote.ensures.leads (in_call a) refl
     ∙ c.spaces_end.ensures.over (call_arg_ended (with_arg a c.in_ok-pieces-in-Quote.pieces)) refl
 
-pub unquoted-requires-clause-no_quote : goal.unquoted-requires-clause-no_quote
-unquoted-requires-clause-no_quote c = λ e. c.in_default.not-Quote (c.sort_at.ensures ∙ e)
+pub unquoted_argument-requires-clause-no_quote : goal.unquoted_argument-requires-clause-no_quote
+unquoted_argument-requires-clause-no_quote c = λ e. c.in_default.not-Quote (c.sort_at.ensures ∙ e)

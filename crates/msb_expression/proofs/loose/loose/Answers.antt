@@ -7,4 +7,4 @@ pub returns-clause-leads : goal.returns-clause-leads
 returns-clause-leads c = λ a.
     c.in_ok-pieces.ensures.leads a
     ∙ ap (λ ps. run (drop c.in_ok-pieces.end c.args.text.now) (call_arg_ended (with_arg a ps)))
-    (sym (c.in_ok-trimmed.ensures ∙ ap trimmed_pieces c.as_slice.ensures))
+    (sym (c.in_ok-trim_pieces.ensures ∙ ap trimmed_pieces c.as_slice.ensures))

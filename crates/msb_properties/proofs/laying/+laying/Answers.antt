@@ -153,13 +153,14 @@ lay_file-returns-in_err-root-clause-laid t c =
     let found : file_at c.args.path.now c.args.setting.now.tree.now.files
     ≡ Some c.in-Some.file.now = ap (λ p. file_at p c.args.setting.now.tree.now.files)
     (sym c.as_str.ensures) ∙ sym c.in-Some.ensures in
-    let p = err_from_is_err_and c.from_residual.result c.from_residual.ensures.1 in
+    let p = err_from_is_err_and c.from_residual-in_err-root.result c.from_residual-in_err-root.ensures.1 in
     rw (p.1, p.2)
     (passed_on (λ (f : EvalFault). f.cause) c.in_err-root.field-0.0 _ _
     (λ f is. step.file_stops (seen_setting c.args.setting.now) c.args.chain.now c.args.path.now
-    (seen_laid c.args.layout.now) (64 - length c.args.chain.now) (64 - length c.in-Ok.longer)
+    (seen_laid c.args.layout.now) (64 - length c.args.chain.now) (64 - length c.in_ok-longer.longer)
     c.in-Some.file.now f
-    (one_less c.args.chain.now c.in-Ok.longer c.args.path.now c.requires.short c.in-Ok.ensures)
+    (one_less c.args.chain.now c.in_ok-longer.longer c.args.path.now c.requires.short
+    c.in_ok-longer.ensures)
     found is)
     c.in_err-root.ensures)
 
@@ -172,9 +173,10 @@ lay_file-lay_project-requires t c =
     (view c.in_ok-root.root) found c.in_ok-root.ensures in (
       omega (
         arith,
-        lower (64 - length c.args.chain.now) (64 - length c.in-Ok.longer)
+        lower (64 - length c.args.chain.now) (64 - length c.in_ok-longer.longer)
             (height (view c.in_ok-root.root)) (above_all c.args.setting.now.tree.now.files)
-            (one_less c.args.chain.now c.in-Ok.longer c.args.path.now c.requires.short c.in-Ok.ensures)
+            (one_less c.args.chain.now c.in_ok-longer.longer c.args.path.now c.requires.short
+            c.in_ok-longer.ensures)
             deep,
         c.decreases,
       ),
@@ -187,11 +189,12 @@ lay_file-returns-clause-laid t c =
     ≡ Some c.in-Some.file.now = ap (λ p. file_at p c.args.setting.now.tree.now.files)
     (sym c.as_str.ensures) ∙ sym c.in-Some.ensures in
     gives_same _ c.lay_project.result _ _
-    (step.file_goes (seen_setting c.args.setting.now) c.args.chain.now c.in-Ok.longer
+    (step.file_goes (seen_setting c.args.setting.now) c.args.chain.now c.in_ok-longer.longer
     c.args.path.now (seen_laid c.args.layout.now) (64 - length c.args.chain.now)
-    (64 - length c.in-Ok.longer) c.in-Some.file.now (view c.in_ok-root.root)
-    (one_less c.args.chain.now c.in-Ok.longer c.args.path.now c.requires.short c.in-Ok.ensures)
-    found c.in-Ok.ensures c.in_ok-root.ensures)
+    (64 - length c.in_ok-longer.longer) c.in-Some.file.now (view c.in_ok-root.root)
+    (one_less c.args.chain.now c.in_ok-longer.longer c.args.path.now c.requires.short
+    c.in_ok-longer.ensures)
+    found c.in_ok-longer.ensures c.in_ok-root.ensures)
     c.lay_project.ensures.laid
 
 pub lay_group-returns-in_err-holds_in_file-clause-laid :

@@ -1,6 +1,5 @@
-use Rattle.std.proofs.Common.{◌≡◌, Ok, sym, subst}
-use Rattle.std.proofs.lemmas.Result.{IfOk-weaker}
-use Rattle.build_world.specs.Answers.{GivesFault}
+use Rattle.std.proofs.Common.{◌≡◌, ◌∙◌, Ok, ap, sym, subst}
+use Rattle.build_world.specs.declared.instance.Instance.{Instance}
 use Rattle.msb_instance.specs.Evaluated.{evaluated, seen_instance}
 use Rattle.msb_instance.specs.Kept.{AreEvaluated, Keeps}
 use Rattle.msb_instance.proofs.Keeping.{evaluated-kept, keeps-found, same_key, same_key-exact}
@@ -16,7 +15,7 @@ returns-in-Some-clause-gives c =
     evaluated-kept same_key same_key-exact key instance files es
     (subst (AreEvaluated files) (sym c.self.view_is) c.requires.kept)
     (keeps-found same_key same_key-exact key instance es (sym c.in-Some.ensures.value)) in
-    subst (GivesFault seen_instance c.shared.result) (sym is) c.shared.ensures.gives
+    is ∙ ap (λ (i : Instance). Ok (seen_instance i)) (sym c.in_ok-copy.ensures)
 
 pub returns-in-Some-clause-keeps : goal.returns-in-Some-clause-keeps
 returns-in-Some-clause-keeps c =
@@ -26,5 +25,4 @@ returns-in-Some-clause-keeps c =
     let kept : Keeps key instance c.args.self.now =
     subst (Keeps key instance) c.self.view_is
     (keeps-found same_key same_key-exact key instance es (sym c.in-Some.ensures.value)) in
-    IfOk-weaker c.shared.result (λ i. i ≡ instance) (λ i. Keeps key i c.args.self.now)
-    (λ i is. subst (λ i. Keeps key i c.args.self.now) (sym is) kept) c.shared.ensures.is
+    subst (λ i. Keeps key i c.args.self.now) (sym c.in_ok-copy.ensures) kept

@@ -26,14 +26,14 @@ returns-in_err-take_element-clause-laid c =
     (at f (view c.args.element))) (sym c.as_str.ensures) ∙ is))
     c.in_err-take_element.ensures.taken)
 
-pub returns-in-Ok-push_element-clause-laid : goal.returns-in-Ok-push_element-clause-laid
-returns-in-Ok-push_element-clause-laid c =
+pub returns-clause-laid : goal.returns-clause-laid
+returns-clause-laid c =
     let l = seen_laid c.args.self.now in
     let e = at c.args.file.now (view c.args.element) in
     let grown : map seen_placed c.push_element.new.elements.items
     ≡ l.elements ++ e ∷ [] = seen_more c.push_element.new.elements.items
-    c.args.self.now.elements.items record { file = c.in-Ok.file; element = c.args.element }
-    c.args.file.now c.in-Ok-push_element.ensures c.in-Ok.ensures in
+    c.args.self.now.elements.items record { file = c.in_ok-file.file; element = c.args.element }
+    c.args.file.now c.in_ok-push_element.ensures c.in_ok-file.ensures in
     extended_by (seen_setting c.args.setting.now) l e (seen_properties c.args.self.now.properties)
     c.requires.kept
     ∙ ap (map_ok (λ q. with_element l e))
@@ -43,14 +43,14 @@ returns-in-Ok-push_element-clause-laid c =
     ∙ ap (λ es. Ok record { elements = es; files = l.files; duplicates = l.duplicates })
     (sym grown)
 
-pub returns-in-Ok-push_element-clause-kept : goal.returns-in-Ok-push_element-clause-kept
-returns-in-Ok-push_element-clause-kept c =
+pub returns-clause-kept : goal.returns-clause-kept
+returns-clause-kept c =
     let l = seen_laid c.args.self.now in
     let e = at c.args.file.now (view c.args.element) in
     let grown : map seen_placed c.push_element.new.elements.items
     ≡ l.elements ++ e ∷ [] = seen_more c.push_element.new.elements.items
-    c.args.self.now.elements.items record { file = c.in-Ok.file; element = c.args.element }
-    c.args.file.now c.in-Ok-push_element.ensures c.in-Ok.ensures in
+    c.args.self.now.elements.items record { file = c.in_ok-file.file; element = c.args.element }
+    c.args.file.now c.in_ok-push_element.ensures c.in_ok-file.ensures in
     record {
       plain = c.in_ok-take_element.ensures.plain;
       kept = ap (properties_of (seen_setting c.args.setting.now)) grown

@@ -12,7 +12,7 @@ use Rattle.msb_expression.proofs.CallPlaces.{
   grows_there,
   ok_so,
 }
-use Rattle.msb_expression.proofs.calls.unquoted.Goals as goal
+use Rattle.msb_expression.proofs.calls.unquoted_argument.Goals as goal
 
 pub loose-requires-clause-cut : goal.loose-requires-clause-cut
 loose-requires-clause-cut c =

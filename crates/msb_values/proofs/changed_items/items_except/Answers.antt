@@ -4,7 +4,7 @@ use Rattle.std.specs.Str.{bytes_eq}
 use Rattle.msb_values.specs.Changes.{without_named}
 use Rattle.msb_values.specs.Folded.{folded_bytes}
 use Rattle.msb_values.proofs.Sets.{folded_any, kept_turn, dropped}
-use Rattle.msb_values.proofs.changed_items.without_named.Goals as goal
+use Rattle.msb_values.proofs.changed_items.items_except.Goals as goal
 
 pub loop-item-preserved : goal.loop-item-preserved
 loop-item-preserved c =

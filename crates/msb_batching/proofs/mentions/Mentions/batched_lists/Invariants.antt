@@ -1,7 +1,7 @@
 use Rattle.std.proofs.Common.{◌≡◌, ◌++◌, map, filter, drop}
 use Rattle.msb_batching.specs.References.{batched, is_batched}
 use Rattle.msb_batching.specs.Growing.{spoken_of}
-use Rattle.msb_batching.proofs.mentions.Mentions.batched.Given as goal
+use Rattle.msb_batching.proofs.mentions.Mentions.batched_lists.Given as goal
 
 abbrev pub invariant-loop-kind : goal.invariant-loop-kind
 invariant-loop-kind l =

@@ -1,7 +1,7 @@
 use Rattle.std.proofs.Common.{◌≡◌, ◌++◌, filter, not}
 use Rattle.std.specs.Vec.Iter.{into_iter_items}
 use Rattle.msb_glob.specs.FoldedNames.{is_named_by, seen_names}
-use Rattle.task_kit.proofs.excluded.less_excluded.Given as goal
+use Rattle.task_kit.proofs.excluded.without_excluded.Given as goal
 
 abbrev pub invariant-loop-item : goal.invariant-loop-item
 invariant-loop-item l =

@@ -1,6 +1,6 @@
 use Rattle.std.proofs.Common.{◌≡◌, ◌++◌, ◌==◌, drop}
 use Rattle.msb_expression.specs.Grammar.{cut_pieces, trimmed_pieces}
-use Rattle.msb_expression.proofs.loose.trimmed.Given as goal
+use Rattle.msb_expression.proofs.loose.trim_pieces.Given as goal
 
 abbrev pub invariant-loop-at : goal.invariant-loop-at
 invariant-loop-at l =

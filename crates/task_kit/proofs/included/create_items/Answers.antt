@@ -7,7 +7,7 @@ use Rattle.msb_values.specs.declared.item.Item.{Item}
 use Rattle.task_trait.specs.declared.failures.Failure.{Failure}
 use Rattle.task_kit.specs.Included.{items_included, less_excluded, names_excluded}
 use Rattle.task_kit.proofs.Excluding.{left_same}
-use Rattle.task_kit.proofs.included.items_created.Goals as goal
+use Rattle.task_kit.proofs.included.create_items.Goals as goal
 
 pub returns : goal.returns
 returns c =
@@ -22,7 +22,7 @@ returns c =
     ∙ ap (map_ok (less_excluded dir names)) c.in_ok-items.ensures
     ∙ ap Ok
     (sym
-    (c.in_ok-less_excluded.ensures
+    (c.in_ok-without_excluded.ensures
     ∙ ap
     (filter
     (λ (item : Item). not (is_named_by dir (seen_names c.in_ok-names.names) item.ident)))

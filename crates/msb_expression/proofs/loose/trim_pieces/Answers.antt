@@ -1,5 +1,5 @@
 use Rattle.msb_expression.proofs.Blanks.{cut_turn}
-use Rattle.msb_expression.proofs.loose.trimmed.Goals as goal
+use Rattle.msb_expression.proofs.loose.trim_pieces.Goals as goal
 
 pub loop-at-preserved : goal.loop-at-preserved
 loop-at-preserved c =
