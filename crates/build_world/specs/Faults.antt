@@ -1,5 +1,5 @@
--- How a fault of evaluation is told: its file, its place and its cause. (MSBuild command-line
--- reference)
+-- How a fault of evaluation is told: its file, its place and its cause; and that a project file is
+-- not there. (MSBuild command-line reference)
 use Rattle.std.specs.Prelude.{ℕ, List, ◌++◌, Option, Some, None, codes}
 use Rattle.msb_laws.specs.Words.{Path, Text}
 use Rattle.msb_values.specs.Causes.{shown_of}
@@ -26,3 +26,6 @@ text_if None cause = cause
 
 abbrev pub fault_text : EvalFault → Text
 fault_text fault = text_if fault.element (shown_of fault.cause)
+
+abbrev pub not_found_text : Path → Text
+not_found_text path = path ++ codes ": not found"

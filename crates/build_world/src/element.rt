@@ -52,7 +52,7 @@ impl<'a> PlacedElement<'a> {
         ensures { IfOk result (λ text. text ≡ fault_text (fault_of (seen_element self.now) cause)) }
     {
         let fault = self.placed_fault(alloc, cause)?;
-        fault.shown(alloc)
+        fault.to_text(alloc)
     }
 
     fn placed_fault(&self, alloc: Global, cause: Cause) -> Result<EvalFault, NoMemory>

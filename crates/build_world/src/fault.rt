@@ -1,4 +1,5 @@
 ghost use Rattle.std.specs.Prelude.{◌≡◌, IfOk};
+ghost use Rattle.build_world.specs.Faults.{not_found_text};
 
 use msb_elements::Place;
 use msb_values::{Cause, NoMemory, Text};
@@ -70,7 +71,7 @@ impl<T: Drop> From<AllocFailed<T>> for EvalFault {
 }
 
 impl EvalFault {
-    ghost use Rattle.build_world.specs.Faults.{fault_at, fault_text, out_of_memory};
+    ghost use Rattle.build_world.specs.Faults.{fault_at, fault_text};
 
     /// A fault of the element that stands at this place of a file.
     pub(crate) fn at(file: Text, place: Place, cause: Cause) -> EvalFault
@@ -82,20 +83,13 @@ impl EvalFault {
         }
     }
 
-    /// Want of memory.
-    pub fn memory(_alloc: Global) -> EvalFault
-        ensures { result ≡ out_of_memory }
-    {
-        EvalFault::from(NoMemory)
-    }
-
     /// The file, the place and the cause, as they are printed.
-    pub fn shown(&self, alloc: Global) -> Result<Text, NoMemory>
+    pub fn to_text(&self, alloc: Global) -> Result<Text, NoMemory>
         ensures { IfOk result (λ t. t ≡ fault_text self.now) }
     {
-        let cause = self.cause.shown(alloc)?;
+        let cause = self.cause.to_text(alloc)?;
         match &self.element {
-            Some(element) => element.shown_before(alloc, cause.as_str()),
+            Some(element) => element.text_with(alloc, cause.as_str()),
             None => Ok(cause),
         }
     }
@@ -104,11 +98,18 @@ impl EvalFault {
 impl ElementPlace {
     ghost use Rattle.build_world.specs.Faults.{text_at};
 
-    fn shown_before(&self, alloc: Global, cause: &str) -> Result<Text, NoMemory>
+    fn text_with(&self, alloc: Global, cause: &str) -> Result<Text, NoMemory>
         ensures { IfOk result (λ t. t ≡ text_at self.now cause.now) }
     {
         let file = self.file.as_str();
         let place = &self.place;
         Ok(Text::from(format!(in alloc; "{file} {place}: {cause}")?))
     }
+}
+
+/// What is said of a project file that is not there. (MSBuild command-line reference.)
+pub fn not_found_text(alloc: Global, path: &str) -> Result<Text, NoMemory>
+    ensures { IfOk result (λ text. text ≡ not_found_text path.now) }
+{
+    Ok(Text::from(format!(in alloc; "{path}: not found")?))
 }

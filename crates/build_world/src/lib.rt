@@ -13,7 +13,7 @@ mod used_targets;
 mod world;
 
 pub use element::PlacedElement;
-pub use fault::{ElementPlace, EvalFault};
+pub use fault::{ElementPlace, EvalFault, not_found_text};
 pub use instance::{Instance, UsedTarget};
 pub use laid_out::{LaidOut, Placed};
 pub use reading::read_file;

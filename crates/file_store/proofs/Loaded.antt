@@ -44,6 +44,7 @@ use Rattle.std.proofs.lemmas.Slice.Eq.{bytes_eq-Decides}
 use Rattle.file_store.specs.Files.{paths_of, are_in_order, file_at, bytes_at, bytes_or_none}
 use Rattle.file_store.specs.Entries.{entry_of, entries_of, paths_in, are_listed_in_order}
 use Rattle.file_store.specs.Limits.{limit_fault}
+use Rattle.file_store.specs.Seen.{StoreSeen}
 use Rattle.file_store.specs.Loads.{OfListing, IsLoading, IsCaused, IsReadCaused}
 use Rattle.file_store.specs.declared.tree.File.{File}
 use Rattle.file_store.specs.declared.tree.Tree.{Tree}
@@ -165,13 +166,16 @@ listed_path entries i e path within is same = (
 )
 
 -- a failed read of one entry is one of the listing's
-pub read_among : (before mid now : ℕ) (entries : List Entry) (i : ℕ) (e : Entry) (fault : LoadFault)
-    → before ≤ mid → i < length entries → e ≡ get_or entries i e
+pub read_among : (before mid now : StoreSeen) (entries : List Entry) (i : ℕ) (e : Entry)
+    (fault : LoadFault)
+    → before.fault_count ≤ mid.fault_count → i < length entries → e ≡ get_or entries i e
     → IsReadCaused mid now (λ path. path ≡ e.path) fault
     → IsReadCaused before now (Contains (paths_in entries)) fault
 read_among before mid now entries i e Listing h within is c = absurd c
-read_among before mid now entries i e (Reading path) h within is c =
-    (rose_since before mid now _ h c.0, listed_path entries i e path within is c.1)
+read_among before mid now entries i e (Reading path) h within is c = (
+  rose_since before.fault_count mid.fault_count now.fault_count _ h c.0,
+  listed_path entries i e path within is c.1,
+)
 read_among before mid now entries i e (Files number) h within is c = absurd c
 read_among before mid now entries i e (Bytes total) h within is c = absurd c
 read_among before mid now entries i e (Large path) h within is c = absurd c
@@ -216,26 +220,27 @@ told_file path None listing l c = tt
 told_file path (Some files) listing l c = listed_file path files
     (subst (λ es. Contains (paths_in es) path) l.told c)
 
-loading : (before mid now : ℕ) (tree : Option (List File)) (listing : List Entry)
-    (fault : LoadFault) → before ≤ mid → IsListing tree listing → limit_fault listing ≡ None
-    → IsReadCaused mid now (Contains (paths_in listing)) fault → IsCaused before now tree fault
-loading before mid now tree listing Listing h l none c = absurd c
-loading before mid now tree listing (Reading path) h l none c = (
-  rose_since before mid now _ h c.0,
-  told_file path tree listing l c.1,
-  of_listing tree listing
+loading : (before mid now : StoreSeen) (listing : List Entry) (fault : LoadFault)
+    → before.fault_count ≤ mid.fault_count → IsListing before.tree listing
+    → limit_fault listing ≡ None → IsReadCaused mid now (Contains (paths_in listing)) fault
+    → IsCaused before now fault
+loading before mid now listing Listing h l none c = absurd c
+loading before mid now listing (Reading path) h l none c = (
+  rose_since before.fault_count mid.fault_count now.fault_count _ h c.0,
+  told_file path before.tree listing l c.1,
+  of_listing before.tree listing
       (IsLoading path) l (record { within = none; listed = c.1 }),
 )
-loading before mid now tree listing (Files number) h l none c = absurd c
-loading before mid now tree listing (Bytes total) h l none c = absurd c
-loading before mid now tree listing (Large path) h l none c = absurd c
-loading before mid now tree listing (BadPath path) h l none c = absurd c
-loading before mid now tree listing Memory h l none c = tt
+loading before mid now listing (Files number) h l none c = absurd c
+loading before mid now listing (Bytes total) h l none c = absurd c
+loading before mid now listing (Large path) h l none c = absurd c
+loading before mid now listing (BadPath path) h l none c = absurd c
+loading before mid now listing Memory h l none c = tt
 
-pub failed : (before mid now : ℕ) (tree : Option (List File)) (listing : List Entry)
-    (result : Result Tree LoadFault) → before ≤ mid → IsListing tree listing
+pub failed : (before mid now : StoreSeen) (listing : List Entry) (result : Result Tree LoadFault)
+    → before.fault_count ≤ mid.fault_count → IsListing before.tree listing
     → limit_fault listing ≡ None → IfErr result (IsReadCaused mid now (Contains (paths_in listing)))
-    → IfErr result (IsCaused before now tree)
-failed before mid now tree listing (Ok t) h l none c = tt
-failed before mid now tree listing (Err fault) h l none c = loading before mid now tree listing
-    fault h l none c
+    → IfErr result (IsCaused before now)
+failed before mid now listing (Ok t) h l none c = tt
+failed before mid now listing (Err fault) h l none c = loading before mid now listing fault h l none
+    c

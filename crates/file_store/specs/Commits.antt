@@ -23,6 +23,7 @@ use Rattle.msb_values.specs.Acts.{act_path, act_bytes}
 use Rattle.msb_values.specs.declared.act.Act.{Act}
 use Rattle.msb_values.specs.declared.act.Act.TheVariants.{Write, Remove}
 use Rattle.file_store.specs.Files.{file_at}
+use Rattle.file_store.specs.Seen.{StoreSeen}
 use Rattle.file_store.specs.Writes.{IsWritten, IsOldOrNew, IsRemoved, IsOldOrGone}
 use Rattle.file_store.specs.declared.tree.File.{File}
 use Rattle.file_store.specs.declared.committing.CommitFault.{CommitFault}
@@ -71,6 +72,6 @@ place_of (Writing place) = place
 place_of (Memory place) = place
 
 -- the store's count has risen; want of memory has no cause
-abbrev pub IsCommitCaused : ℕ → ℕ → CommitFault → Type 0
-IsCommitCaused before now (Writing place) = Rose before now
+abbrev pub IsCommitCaused : StoreSeen → StoreSeen → CommitFault → Type 0
+IsCommitCaused before now (Writing place) = Rose before.fault_count now.fault_count
 IsCommitCaused before now (Memory place) = Unit {0}

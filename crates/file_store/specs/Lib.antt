@@ -5,6 +5,7 @@ pub mod Writes
 pub mod Limits
 pub mod Loads
 pub mod Failed
+pub mod Seen
 pub mod Memory
 pub mod MemorySink
 pub mod Commits

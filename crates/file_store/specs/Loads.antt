@@ -2,7 +2,6 @@
 use Rattle.std.specs.Prelude.{
   ◌≡◌,
   ◌≤◌,
-  ℕ,
   true,
   List,
   [],
@@ -17,7 +16,7 @@ use Rattle.std.specs.Prelude.{
 }
 use Rattle.msb_laws.specs.Words.{Path}
 use Rattle.msb_laws.specs.Faults.{Rose}
-use Rattle.file_store.specs.Failed.{Failures}
+use Rattle.file_store.specs.Seen.{StoreSeen}
 use Rattle.file_store.specs.Files.{file_at}
 use Rattle.file_store.specs.Entries.{entries_of, paths_in, are_listed_in_order}
 use Rattle.file_store.specs.Limits.{limit_fault}
@@ -64,20 +63,21 @@ IsPast fault listing = limit_fault listing ≡ Some fault
 
 -- Why a load failed: the store's count has risen, in its listing or in the read of a file of a
 -- listing within the limits; or the listing passes a limit. Want of memory has no cause.
-abbrev pub IsCaused : ℕ → ℕ → Option (List File) → LoadFault → Type 0
-IsCaused before now tree Listing = Rose before now
-IsCaused before now tree (Reading path) = Rose before now
-    × IfSome tree (λ files. IsSome (file_at path files)) × OfListing tree (IsLoading path)
-IsCaused before now tree (Files number) = OfListing tree (IsPast (Files number))
-IsCaused before now tree (Bytes total) = OfListing tree (IsPast (Bytes total))
-IsCaused before now tree (Large path) = OfListing tree (IsPast (Large path))
-IsCaused before now tree (BadPath path) = OfListing tree (IsPast (BadPath path))
-IsCaused before now tree Memory = Unit {0}
+abbrev pub IsCaused : StoreSeen → StoreSeen → LoadFault → Type 0
+IsCaused before now Listing = Rose before.fault_count now.fault_count
+IsCaused before now (Reading path) = Rose before.fault_count now.fault_count
+    × IfSome before.tree (λ files. IsSome (file_at path files))
+    × OfListing before.tree (IsLoading path)
+IsCaused before now (Files number) = OfListing before.tree (IsPast (Files number))
+IsCaused before now (Bytes total) = OfListing before.tree (IsPast (Bytes total))
+IsCaused before now (Large path) = OfListing before.tree (IsPast (Large path))
+IsCaused before now (BadPath path) = OfListing before.tree (IsPast (BadPath path))
+IsCaused before now Memory = Unit {0}
 
 -- What a load tells as the cause has failed: a listing, or the read of the path.
-abbrev pub IsOfKind : Failures → Failures → LoadFault → Type 0
-IsOfKind before now Listing = Rose before.listings now.listings
-IsOfKind before now (Reading path) = Rose (before.reads path) (now.reads path)
+abbrev pub IsOfKind : StoreSeen → StoreSeen → LoadFault → Type 0
+IsOfKind before now Listing = Rose before.failures.listings now.failures.listings
+IsOfKind before now (Reading path) = Rose (before.failures.reads path) (now.failures.reads path)
 IsOfKind before now (Files number) = Unit {0}
 IsOfKind before now (Bytes total) = Unit {0}
 IsOfKind before now (Large path) = Unit {0}
@@ -85,9 +85,9 @@ IsOfKind before now (BadPath path) = Unit {0}
 IsOfKind before now Memory = Unit {0}
 
 -- the store's count has risen in the read of a path with P
-abbrev pub IsReadCaused : ℕ → ℕ → (Path → Type 0) → LoadFault → Type 0
+abbrev pub IsReadCaused : StoreSeen → StoreSeen → (Path → Type 0) → LoadFault → Type 0
 IsReadCaused before now P Listing = ⊥
-IsReadCaused before now P (Reading path) = Rose before now × P path
+IsReadCaused before now P (Reading path) = Rose before.fault_count now.fault_count × P path
 IsReadCaused before now P (Files number) = ⊥
 IsReadCaused before now P (Bytes total) = ⊥
 IsReadCaused before now P (Large path) = ⊥

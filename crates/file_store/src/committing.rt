@@ -1,5 +1,4 @@
-ghost use Rattle.std.specs.Prelude.{◌≤◌, ◌<◌, length, IfErr, OnOk, OnErr, IfSome, IsSomeAnd};
-ghost use Rattle.msb_laws.specs.Faults.{HasCause};
+ghost use Rattle.std.specs.Prelude.{◌≤◌, ◌<◌, length, IfErr, OnOk, OnErr};
 ghost use Rattle.file_store.specs.Commits.{
   AreDone,
   AreDoneTo,
@@ -9,7 +8,7 @@ ghost use Rattle.file_store.specs.Commits.{
   MayBeDone,
   place_of,
 };
-ghost use Rattle.file_store.specs.declared.store.StoreError.TheVariants.{Failed};
+ghost use Rattle.file_store.specs.Seen.{OfTrees, CountsFault};
 
 use crate::{Store, StoreError};
 use msb_values::{Act, List};
@@ -27,16 +26,15 @@ pub enum CommitFault {
 /// Does acts in order, and stops at the first that the store doesn't do. (MSBuild targets; Delete
 /// task.)
 pub fn commit<S: Store>(alloc: Global, store: &mut S, list: &List<Act>) -> Result<(), CommitFault>
-    ensures whole { OnOk result (IfSome (S.tree store.old) (λ t.
-        IsSomeAnd (S.tree store.new) (AreDone list.now t))) }
-    ensures contents { OnOk result (IfSome (S.tree store.old) (λ t.
-        IsSomeAnd (S.tree store.new) (HasContents list.now t))) }
-    ensures part { IfErr result (λ e. IfSome (S.tree store.old) (λ t.
-        IsSomeAnd (S.tree store.new) (AreDoneTo (place_of e) list.now t))) }
+    ensures whole { OnOk result
+        (OfTrees (AreDone list.now) (S.seen store.old) (S.seen store.new)) }
+    ensures contents { OnOk result
+        (OfTrees (HasContents list.now) (S.seen store.old) (S.seen store.new)) }
+    ensures part { IfErr result
+        (λ e. OfTrees (AreDoneTo (place_of e) list.now) (S.seen store.old) (S.seen store.new)) }
     ensures place { IfErr result (λ e. place_of e < length list.now) }
-    ensures later { S.fault_count store.old ≤ S.fault_count store.new }
-    ensures cause { IfErr result
-        (IsCommitCaused (S.fault_count store.old) (S.fault_count store.new)) }
+    ensures later { (S.seen store.old).fault_count ≤ (S.seen store.new).fault_count }
+    ensures cause { IfErr result (IsCommitCaused (S.seen store.old) (S.seen store.new)) }
 {
     for (place, act) in list.as_slice().iter().enumerate() {
         match do_act(alloc, store, act) {
@@ -49,11 +47,10 @@ pub fn commit<S: Store>(alloc: Global, store: &mut S, list: &List<Act>) -> Resul
 }
 
 fn do_act<S: Store>(alloc: Global, store: &mut S, act: &Act) -> Result<(), StoreError>
-    ensures done { OnOk result (IfSome (S.tree store.old) (λ t.
-        IsSomeAnd (S.tree store.new) (IsDone act.now t))) }
-    ensures stopped { OnErr result (IfSome (S.tree store.old) (λ t.
-        IsSomeAnd (S.tree store.new) (MayBeDone act.now t))) }
-    ensures cause { HasCause Failed (S.fault_count store.old) (S.fault_count store.new) result }
+    ensures done { OnOk result (OfTrees (IsDone act.now) (S.seen store.old) (S.seen store.new)) }
+    ensures stopped { OnErr result
+        (OfTrees (MayBeDone act.now) (S.seen store.old) (S.seen store.new)) }
+    ensures cause { CountsFault (S.seen store.old) (S.seen store.new) result }
 {
     match act {
         Act::Write(put) => store.write(alloc, put.path.as_str(), put.bytes.get().as_bytes()),

@@ -79,12 +79,12 @@ impl<'a, R: Files> DirStore<'a, R> {
 }
 
 impl<'a, R: Files> Store for DirStore<'a, R> {
-    ghost tree = { λ _. None };
-
-    ghost fault_count = { λ s. s.faults };
-
     /// All its reads count as reads of a path.
-    ghost failures = { λ s. counted s.failed_listings s.failed_reads };
+    ghost seen = { λ s. record {
+      tree = None;
+      fault_count = s.faults;
+      failures = counted s.failed_listings s.failed_reads;
+    } };
 
     ghost told_in_order = { λ _. tt };
 

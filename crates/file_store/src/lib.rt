@@ -27,6 +27,7 @@ pub use loading::{LoadFault, load};
 pub use memory::MemStore;
 pub use memory_sink::MemSink;
 pub use output::OutSink;
+pub use presence::{is_ahead, is_below};
 pub use sink::{Sink, SinkError};
 pub use store::{Entry, Store, StoreError};
 pub use tree::{File, Tree};

@@ -1,8 +1,6 @@
 ghost use Rattle.std.specs.Prelude.{
   ◌≡◌,
   ◌≤◌,
-  ℕ,
-  List,
   true,
   None,
   length,
@@ -12,6 +10,7 @@ ghost use Rattle.std.specs.Prelude.{
   IfErr,
   IfSome,
 };
+ghost use Rattle.msb_laws.specs.Words.{Path};
 ghost use Rattle.file_store.specs.Files.{paths_of, bytes_at};
 ghost use Rattle.file_store.specs.Entries.{entries_of, paths_in, are_listed_in_order};
 ghost use Rattle.file_store.specs.Limits.{limit_fault};
@@ -63,14 +62,13 @@ impl From<NoMemory> for LoadFault {
 /// too large. No more than its listed size is asked of a file, so that what is loaded is within the
 /// limits too, whatever the store tells.
 pub fn load<S: Store>(alloc: Global, store: &mut S) -> Result<Tree, LoadFault>
-    ensures whole { IfOk result (λ t. IfSome (S.tree store.old) (λ files. t.files ≡ files)) }
-    ensures within { IfOk result (λ t. OfListing (S.tree store.old) (IsLoaded (paths_of t.files))) }
+    ensures whole { IfOk result (λ t. IfSome (S.seen store.old).tree (λ files. t.files ≡ files)) }
+    ensures within { IfOk result (λ t. OfListing (S.seen store.old).tree (IsLoaded (paths_of t.files))) }
     ensures limited { IfOk result (λ t. limit_fault (entries_of t.files) ≡ None) }
-    ensures kept { S.tree store.new ≡ S.tree store.old }
-    ensures later { S.fault_count store.old ≤ S.fault_count store.new }
-    ensures cause { IfErr result
-        (IsCaused (S.fault_count store.old) (S.fault_count store.new) (S.tree store.old)) }
-    ensures kind { IfErr result (IsOfKind (S.failures store.old) (S.failures store.new)) }
+    ensures kept { (S.seen store.new).tree ≡ (S.seen store.old).tree }
+    ensures later { (S.seen store.old).fault_count ≤ (S.seen store.new).fault_count }
+    ensures cause { IfErr result (IsCaused (S.seen store.old) (S.seen store.new)) }
+    ensures kind { IfErr result (IsOfKind (S.seen store.old) (S.seen store.new)) }
 {
     let entries = match store.list(alloc) {
         Ok(entries) => entries,
@@ -84,18 +82,17 @@ pub fn load<S: Store>(alloc: Global, store: &mut S) -> Result<Tree, LoadFault>
 fn load_files<S: Store>(alloc: Global, store: &mut S, entries: &[Entry]) -> Result<Tree, LoadFault>
     requires { are_listed_in_order entries.now ≡ true }
     ensures whole { IfOk result
-        (λ t. IfSome (S.tree store.old) (λ files. entries.now ≡ entries_of files
+        (λ t. IfSome (S.seen store.old).tree (λ files. entries.now ≡ entries_of files
         → t.files ≡ files)) }
     ensures paths { IfOk result (λ t. paths_of t.files ≡ paths_in entries.now) }
     ensures as_listed { IfOk result (λ t. AreAsListed entries.now t.files) }
-    ensures kept { S.tree store.new ≡ S.tree store.old }
-    ensures later { S.fault_count store.old ≤ S.fault_count store.new }
+    ensures kept { (S.seen store.new).tree ≡ (S.seen store.old).tree }
+    ensures later { (S.seen store.old).fault_count ≤ (S.seen store.new).fault_count }
     ensures cause { IfErr result
-        (IsReadCaused (S.fault_count store.old) (S.fault_count store.new)
-        (Contains (paths_in entries.now))) }
-    ensures kind { IfErr result (IsOfKind (S.failures store.old) (S.failures store.new)) }
-    ensures reads_later { (path : List ℕ) → (S.failures store.old).reads path
-        ≤ (S.failures store.new).reads path }
+        (IsReadCaused (S.seen store.old) (S.seen store.new) (Contains (paths_in entries.now))) }
+    ensures kind { IfErr result (IsOfKind (S.seen store.old) (S.seen store.new)) }
+    ensures reads_later { (path : Path) → (S.seen store.old).failures.reads path
+        ≤ (S.seen store.new).failures.reads path }
 {
     let mut files = List::new(alloc);
     for entry in entries {
@@ -110,16 +107,15 @@ fn load_file<S: Store>(alloc: Global, store: &mut S, entry: &Entry) -> Result<Fi
     ensures stamp { IfOk result (λ f. f.stamp ≡ entry.now.stamp) }
     ensures bytes { IfOk result
         (λ f.
-        IfSome (S.tree store.old) (λ files. f.bytes
+        IfSome (S.seen store.old).tree (λ files. f.bytes
         ≡ take entry.now.size (bytes_at entry.now.path files))) }
-    ensures kept { S.tree store.new ≡ S.tree store.old }
-    ensures later { S.fault_count store.old ≤ S.fault_count store.new }
+    ensures kept { (S.seen store.new).tree ≡ (S.seen store.old).tree }
+    ensures later { (S.seen store.old).fault_count ≤ (S.seen store.new).fault_count }
     ensures cause { IfErr result
-        (IsReadCaused (S.fault_count store.old) (S.fault_count store.new)
-        (λ path. path ≡ entry.now.path)) }
-    ensures kind { IfErr result (IsOfKind (S.failures store.old) (S.failures store.new)) }
-    ensures reads_later { (path : List ℕ) → (S.failures store.old).reads path
-        ≤ (S.failures store.new).reads path }
+        (IsReadCaused (S.seen store.old) (S.seen store.new) (λ path. path ≡ entry.now.path)) }
+    ensures kind { IfErr result (IsOfKind (S.seen store.old) (S.seen store.new)) }
+    ensures reads_later { (path : Path) → (S.seen store.old).failures.reads path
+        ≤ (S.seen store.new).failures.reads path }
 {
     match store.read(alloc, entry.path.as_str(), entry.size) {
         Ok(bytes) => Ok(File {

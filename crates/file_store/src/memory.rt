@@ -103,11 +103,11 @@ impl MemStore {
 impl Store for MemStore {
     ghost use Rattle.file_store.specs.Memory.{files_in, failures_of, IsToFail, IsNoWrite, Counts};
 
-    ghost tree = { λ s. Some (files_in s) };
-
-    ghost fault_count = { λ s. s.faults };
-
-    ghost failures = { failures_of };
+    ghost seen = { λ s. record {
+      tree = Some (files_in s);
+      fault_count = s.faults;
+      failures = failures_of s;
+    } };
 
     ghost told_in_order = { λ s. s.tree.in_order };
 

@@ -65,9 +65,7 @@ impl MemSink {
 impl Sink for MemSink {
     ghost use Rattle.file_store.specs.MemorySink.{IsRefused, CountsWrite, bytes_in};
 
-    ghost told = { λ s. Some s.bytes.items };
-
-    ghost fault_count = { λ s. s.faults };
+    ghost seen = { λ s. record { bytes = Some (bytes_in s); fault_count = s.faults } };
 
     /// It fails at its one number and where the piece doesn't fit, and nowhere else; it then takes
     /// nothing.

@@ -19,9 +19,7 @@ impl<'a, R: Print> OutSink<'a, R> {
 }
 
 impl<'a, R: Print> Sink for OutSink<'a, R> {
-    ghost told = { λ _. None };
-
-    ghost fault_count = { λ s. s.faults };
+    ghost seen = { λ s. record { bytes = None; fault_count = s.faults } };
 
     fn write(&mut self, piece: &[u8]) -> Result<(), SinkError> {
         match print_all(self.rt, piece) {

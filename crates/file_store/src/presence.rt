@@ -29,14 +29,15 @@ fn has_below(files: &[File], folder: &str) -> bool
     first < files.len() && is_below(files[first].path.as_str(), folder)
 }
 
-// Whether a path stands ahead of all those below a folder.
-fn is_ahead(path: &str, folder: &str) -> bool
+/// Whether a path stands ahead of all those below a folder, in byte order.
+pub fn is_ahead(path: &str, folder: &str) -> bool
     ensures { result ≡ is_before path.now (folder.now ++ 47 ∷ []) }
 {
     path.bytes().cmp(folder.bytes().chain(once(b'/'))).is_lt()
 }
 
-fn is_below(path: &str, folder: &str) -> bool
+/// Whether a path lies below a folder.
+pub fn is_below(path: &str, folder: &str) -> bool
     ensures { result ≡ starts_with nat_eq path.now (folder.now ++ 47 ∷ []) }
 {
     match path.as_bytes().strip_prefix(folder.as_bytes()) {

@@ -1,6 +1,7 @@
-ghost use Rattle.std.specs.Prelude.{◌≡◌, List, ℕ, Option, OnOk, OnErr};
+ghost use Rattle.std.specs.Prelude.{◌≡◌, OnOk, OnErr};
 ghost use Rattle.msb_laws.specs.Faults.{HasCause};
 ghost use Rattle.msb_laws.specs.Gains.{Appends, AppendsFront};
+ghost use Rattle.file_store.specs.Seen.{SinkSeen};
 ghost use Rattle.file_store.specs.declared.sink.SinkError.TheVariants.{Failed};
 
 /// Why a sink has not taken a piece.
@@ -12,19 +13,19 @@ pub enum SinkError {
 
 /// What takes bytes. It may tell the bytes that it has taken.
 pub trait Sink {
-    /// The bytes, where the sink tells them.
-    ghost told: { Self → Option (List ℕ) };
-
-    /// How often it has failed.
-    ghost fault_count: { Self → ℕ };
+    /// The bytes, where the sink tells them, and how often it has failed.
+    ghost seen: { Self → SinkSeen };
 
     /// Appends a piece: the whole of it, or where the sink fails a front of it.
     fn write(&mut self, piece: &[u8]) -> Result<(), SinkError>
-        ensures whole { OnOk result (Appends (told self.old) (told self.new) piece.now) }
-        ensures part { OnErr result (AppendsFront (told self.old) (told self.new) piece.now) }
-        ensures cause { HasCause Failed (fault_count self.old) (fault_count self.new) result };
+        ensures whole { OnOk result
+            (Appends (seen self.old).bytes (seen self.new).bytes piece.now) }
+        ensures part { OnErr result
+            (AppendsFront (seen self.old).bytes (seen self.new).bytes piece.now) }
+        ensures cause { HasCause Failed (seen self.old).fault_count (seen self.new).fault_count
+            result };
 
     /// How often it has failed, up to 2^64 - 1.
     fn faults(&self) -> u64
-        ensures { result ≡ fault_count self.now };
+        ensures { result ≡ (seen self.now).fault_count };
 }

@@ -1,15 +1,13 @@
 //! Whether a run sees a file below a folder. Paths below a folder stand together in byte order, and
 //! are searched by halves.
 
-ghost use Rattle.std.specs.Prelude.{◌≡◌, [], ◌∷◌, ◌++◌, nat_eq, true};
-ghost use Rattle.std.specs.List.{list_any, starts_with};
+ghost use Rattle.std.specs.Prelude.{◌≡◌, true};
+ghost use Rattle.std.specs.List.{list_any};
 ghost use Rattle.file_store.specs.Files.{are_in_order};
-ghost use Rattle.file_store.specs.Paths.{is_before};
 ghost use Rattle.msb_files.specs.Below.{has_file_below};
 
 use crate::FileView;
-use file_store::File;
-use std::iter::once;
+use file_store::{File, is_ahead, is_below};
 
 /// Whether one of the files of a tree lies below a folder, and the view has a file there.
 pub(crate) fn is_any_file_below(files: &[File], view: &FileView<'_>, folder: &str) -> bool
@@ -27,21 +25,4 @@ pub(crate) fn is_any_file_below(files: &[File], view: &FileView<'_>, folder: &st
         }
     }
     false
-}
-
-/// Whether a path stands ahead of all those below a folder.
-pub(crate) fn is_ahead(path: &str, folder: &str) -> bool
-    ensures { result ≡ is_before path.now (folder.now ++ 47 ∷ []) }
-{
-    path.bytes().cmp(folder.bytes().chain(once(b'/'))).is_lt()
-}
-
-/// Whether a path lies below a folder.
-pub(crate) fn is_below(path: &str, folder: &str) -> bool
-    ensures { result ≡ starts_with nat_eq path.now (folder.now ++ 47 ∷ []) }
-{
-    match path.as_bytes().strip_prefix(folder.as_bytes()) {
-        Some(rest) => rest.starts_with(b"/"),
-        None => false,
-    }
 }

@@ -10,9 +10,9 @@ ghost use Rattle.msb_files.specs.Seen.{entry_shown, act_in};
 ghost use Rattle.msb_files.specs.Views.{acts_of};
 
 use crate::FileView;
-use crate::below::is_below;
 use crate::mark::{KeptMark, Mark};
 use crate::shared::ActRef;
+use file_store::is_below;
 use msb_values::{Act, Copied, NoMemory};
 use result_cache::{Record, RecordRef, RunId, RunRef};
 use std::alloc::Global;
@@ -64,7 +64,7 @@ impl Model for Entry {
 }
 
 impl Entry {
-    pub(crate) fn acted(
+    pub(crate) fn of_act(
         alloc: Global,
         run: RunRef,
         number: u64,
@@ -79,23 +79,27 @@ impl Entry {
     }
 
     /// The act of a segment of a run's record.
-    pub(crate) fn recorded(run: &RunRef, made: &RecordRef, number: usize) -> Result<Entry, NoMemory>
-        requires { IsSome (act_at made.now number) }
+    pub(crate) fn of_record(
+        run: &RunRef,
+        record: &RecordRef,
+        number: usize,
+    ) -> Result<Entry, NoMemory>
+        requires { IsSome (act_at record.now number) }
         ensures { IfOk result
-            (λ e. IfSome (act_at made.now number) (λ act. e ≡ acted run.now number act)) }
+            (λ e. IfSome (act_at record.now number) (λ act. e ≡ acted run.now number act)) }
     {
         let run = run.copy()?;
-        let act = ActRef::recorded(made, number)?;
+        let act = ActRef::of_record(record, number)?;
         Ok(Entry {
             kept: JEntry::Acted(run, number as u64, act),
         })
     }
 
-    pub(crate) fn ended(run: RunRef, made: RecordRef) -> Entry
-        ensures { result ≡ ended run made }
+    pub(crate) fn of_end(run: RunRef, run_record: RecordRef) -> Entry
+        ensures { result ≡ ended run run_record }
     {
         Entry {
-            kept: JEntry::Ended(run, made),
+            kept: JEntry::Ended(run, run_record),
         }
     }
 
@@ -169,7 +173,7 @@ impl Entry {
         }
     }
 
-    pub(crate) fn seen(&self) -> JView<'_>
+    pub(crate) fn view(&self) -> JView<'_>
         ensures { entry_shown result ≡ self.now }
     {
         match &self.kept {
@@ -180,7 +184,7 @@ impl Entry {
                 }
                 Act::Remove(path) => JView::Removed(run.get(), *number, path.as_str()),
             },
-            JEntry::Ended(run, made) => JView::Ended(run.get(), made.get()),
+            JEntry::Ended(run, record) => JView::Ended(run.get(), record.get()),
         }
     }
 }
@@ -189,7 +193,7 @@ impl Copied for Entry {
     fn copy(&self) -> Result<Entry, NoMemory> {
         let kept = match &self.kept {
             JEntry::Acted(run, number, act) => JEntry::Acted(run.copy()?, *number, act.copy()?),
-            JEntry::Ended(run, made) => JEntry::Ended(run.copy()?, made.copy()?),
+            JEntry::Ended(run, record) => JEntry::Ended(run.copy()?, record.copy()?),
         };
         Ok(Entry { kept })
     }

@@ -87,7 +87,7 @@ impl Journal {
     /// What a run has done to a path, with its place among the segments of the run's record; an act
     /// that is there by run and place is not taken again. Want of memory leaves the journal as it
     /// was. (Delete task.)
-    pub fn acted(
+    pub fn add_act(
         &mut self,
         alloc: Global,
         run: &RunRef,
@@ -100,19 +100,24 @@ impl Journal {
         if self.has(&Mark::act_of(run, number)) {
             return Ok(());
         }
-        self.enter(alloc, Entry::acted(alloc, run.copy()?, number, act)?)
+        self.enter(alloc, Entry::of_act(alloc, run.copy()?, number, act)?)
     }
 
     /// A run that has ended, with its record; a run that has ended before is not taken again. Want
     /// of memory leaves the journal as it was.
-    pub fn ended(&mut self, alloc: Global, run: &RunRef, made: RecordRef) -> Result<(), NoMemory>
-        ensures ok { OnOk result (self.new ≡ add self.old (ended run.now made)) }
+    pub fn add_end(
+        &mut self,
+        alloc: Global,
+        run: &RunRef,
+        run_record: RecordRef,
+    ) -> Result<(), NoMemory>
+        ensures ok { OnOk result (self.new ≡ add self.old (ended run.now run_record)) }
         ensures err { OnErr result (self.new ≡ self.old) }
     {
         if self.has_ended(run) {
             return Ok(());
         }
-        self.enter(alloc, Entry::ended(run.copy()?, made))
+        self.enter(alloc, Entry::of_end(run.copy()?, run_record))
     }
 
     pub fn has_ended(&self, run: &RunRef) -> bool
@@ -133,7 +138,7 @@ impl Journal {
         requires { at < length self.now }
         ensures { slice_get (reverse self.now) at ≡ Some (entry_shown result) }
     {
-        self.newest(self.count() - 1 - at).seen()
+        self.newest(self.count() - 1 - at).view()
     }
 }
 

@@ -81,10 +81,10 @@ fn take_run(journal: &mut Journal, table: &Table, run: &RunRef) -> Result<(), No
 {
     table.each_once();
     match table.find_ref(run) {
-        Found::Done(made) => {
-            take_record(journal, table, run, made)?;
+        Found::Done(record) => {
+            take_record(journal, table, run, record)?;
             // The records before that of a run don't end the run, so its end is not there yet.
-            journal.push(Entry::ended(run.copy()?, made.copy()?))
+            journal.push(Entry::of_end(run.copy()?, record.copy()?))
         }
         Found::Absent | Found::Begun(_) => unreachable!(),
     }
@@ -95,18 +95,18 @@ fn take_record(
     journal: &mut Journal,
     table: &Table,
     run: &RunRef,
-    made: &RecordRef,
+    record: &RecordRef,
 ) -> Result<(), NoMemory>
     requires { IsSome
-        (replays (replay (before run.now table.now.finished)) (effects_of run.now made.now)
+        (replays (replay (before run.now table.now.finished)) (effects_of run.now record.now)
         journal.old) }
     ensures { OnOk result
-        (replays (replay (before run.now table.now.finished)) (effects_of run.now made.now)
+        (replays (replay (before run.now table.now.finished)) (effects_of run.now record.now)
         journal.old ≡ Some journal.new) }
 {
-    for (number, segment) in made.get().segments.as_slice().iter().enumerate() {
+    for (number, segment) in record.get().segments.as_slice().iter().enumerate() {
         match segment {
-            Segment::File(_) => journal.add(Entry::recorded(run, made, number)?)?,
+            Segment::File(_) => journal.add(Entry::of_record(run, record, number)?)?,
             Segment::Call(_, runs) => take_runs(journal, table, run, runs.as_slice())?,
         }
     }

@@ -58,12 +58,12 @@ impl ActRef {
     }
 
     /// The act of a segment of a record.
-    pub(crate) fn recorded(made: &RecordRef, number: usize) -> Result<ActRef, NoMemory>
-        requires { IsSome (act_at made.now number) }
-        ensures { IfOk result (λ a. act_at made.now number ≡ Some a) }
+    pub(crate) fn of_record(record: &RecordRef, number: usize) -> Result<ActRef, NoMemory>
+        requires { IsSome (act_at record.now number) }
+        ensures { IfOk result (λ a. act_at record.now number ≡ Some a) }
     {
         Ok(ActRef {
-            kept: KeptAct::Recorded(made.copy()?, number),
+            kept: KeptAct::Recorded(record.copy()?, number),
         })
     }
 
@@ -72,7 +72,7 @@ impl ActRef {
     {
         match &self.kept {
             KeptAct::Own(act) => act.get(),
-            KeptAct::Recorded(made, number) => match &made.get().segments.as_slice()[*number] {
+            KeptAct::Recorded(record, number) => match &record.get().segments.as_slice()[*number] {
                 Segment::File(act) => act,
                 Segment::Call(_, _) => unreachable!(),
             },
@@ -84,7 +84,7 @@ impl Copied for ActRef {
     fn copy(&self) -> Result<ActRef, NoMemory> {
         let kept = match &self.kept {
             KeptAct::Own(act) => KeptAct::Own(act.copy()?),
-            KeptAct::Recorded(made, number) => KeptAct::Recorded(made.copy()?, *number),
+            KeptAct::Recorded(record, number) => KeptAct::Recorded(record.copy()?, *number),
         };
         Ok(ActRef { kept })
     }

@@ -19,8 +19,8 @@ ghost use Rattle.msb_files.specs.Places.{path_at, places_of};
 ghost use Rattle.msb_files.specs.Views.{acts_of};
 
 use crate::FileView;
-use crate::below::{is_ahead, is_below};
 use crate::entry::Entry;
+use file_store::{is_ahead, is_below};
 use msb_values::{Act, NoMemory};
 use std::alloc::Global;
 

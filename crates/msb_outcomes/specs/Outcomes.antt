@@ -41,7 +41,7 @@ use Rattle.msb_paths.specs.Refused.{normal_path}
 use Rattle.msb_paths.specs.declared.errors.NormalFault.{NormalFault}
 use Rattle.task_trait.specs.declared.tools.ToolAnswer.{ToolAnswer}
 use Rattle.task_trait.specs.declared.tools.ToolInput.{ToolInput}
-use Rattle.build_world.specs.Faults.{fault_text}
+use Rattle.build_world.specs.Faults.{fault_text, not_found_text}
 use Rattle.build_world.specs.declared.fault.EvalFault.{EvalFault}
 use Rattle.build_world.specs.declared.world.World.{World}
 use Rattle.msb_instance.specs.Evaluated.{Instance, evaluated}
@@ -71,7 +71,7 @@ abbrev pub refused : Text → Outcome
 refused reason = of_text 3 (line (codes "project refused") ++ line (codes "  " ++ reason))
 
 abbrev pub not_found : Text → Outcome
-not_found word = refused (word ++ codes ": not found")
+not_found word = refused (not_found_text word)
 
 -- what was asked for is shown
 abbrev pub shown : Text → Outcome

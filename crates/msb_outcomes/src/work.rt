@@ -27,7 +27,7 @@ ghost use Rattle.msb_outcomes.specs.declared.work.Work.TheVariants.{Told};
 use crate::world_with_instances::WorldWithInstances;
 use build_outcome::Outcome;
 use build_report::{show_eval, show_targets};
-use build_world::{EvalFault, World};
+use build_world::{EvalFault, World, not_found_text};
 use file_store::Tree;
 use msb_instance::{InstanceRef, Instances};
 use msb_paths::{NormalFault, normal_path};
@@ -185,14 +185,14 @@ fn refuse_by(alloc: Global, fault: &EvalFault) -> Result<Work, NoMemory>
     if let Cause::Memory = fault.cause {
         return Err(NoMemory);
     }
-    let reason = fault.shown(alloc)?;
+    let reason = fault.to_text(alloc)?;
     refuse(alloc, reason.as_str())
 }
 
 fn refuse_missing(alloc: Global, word: &str) -> Result<Work, NoMemory>
     ensures { IfOk result (λ work. work ≡ Told (not_found word.now)) }
 {
-    refuse(alloc, format!(in alloc; "{word}: not found")?.as_str())
+    refuse(alloc, not_found_text(alloc, word)?.as_str())
 }
 
 fn refuse(alloc: Global, reason: &str) -> Result<Work, NoMemory>

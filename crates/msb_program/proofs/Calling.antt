@@ -53,12 +53,12 @@ use Rattle.request_machine.specs.Worlds.{world_of}
 use Rattle.msb_words.specs.Options.{options_in}
 use Rattle.msb_words.specs.declared.options.Action.TheVariants.{Trial as ToTry}
 use Rattle.msb_words.specs.declared.options.Options.{Options}
-use Rattle.msb_program.specs.Answers.{AreLoaded, Loading}
+use Rattle.msb_program.specs.Answers.{AreLoaded}
 use Rattle.msb_program.specs.declared.top.Prepared.TheVariants.{Ended}
 use Rattle.msb_outcomes.specs.Calls.{Called, AreCallsFor}
 use Rattle.msb_outcomes.specs.OnNodes.{ComesOn}
 use Rattle.msb_program.specs.Calls.{AreMeantCalls, IsOfHistory, IsOfNodes, IsUndone, IsUnmade}
-use Rattle.msb_program.specs.Endings.{EndsMade, Printing, Saving}
+use Rattle.msb_program.specs.Endings.{EndsMade, SinkChange, StoreChange}
 use Rattle.msb_program.specs.Meanings.{IsAskedOf, Means}
 use Rattle.msb_outcomes.specs.Outcomes.{Answering, IsWorkAt}
 use Rattle.build_engine.specs.Statuses.{IsCompletion}
@@ -143,17 +143,17 @@ module _ (tools : Answering) (words : List (List ℕ)) (told : Option (List File
 
   -- the calls of a build that is done are those of the meaning
   pub done_calls : (options : Options) (files : List File) (work : Work)
-      (made : Result Outcome NoMemory) (before after : Called) (faults_before faults_after : ℕ)
-      (s : Saving) (p : Printing) (status : ℕ) → options_in words ≡ Some options →
+      (made : Result Outcome NoMemory) (before after : Called) (s : StoreChange)
+      (p : SinkChange) (status : ℕ) → options_in words ≡ Some options →
       AreLoaded told files →
       IsWorkAt options files (normal_path [] options.project) work →
       IfOk made (λ o. AreCallsFor tools options.low work o before after) →
-      EndsMade made faults_before faults_after s p status → IsCompletion status →
+      EndsMade made s p status → IsCompletion status →
       ∥ AreMeantCalls means.out before after ∥₁
-  done_calls options files work (Ok o) before after faults_before faults_after s p status asked
+  done_calls options files work (Ok o) before after s p status asked
       loaded is calls ends completed =
       of_words options files work o before after asked loaded is calls
-  done_calls options files work (Err e) before after faults_before faults_after s p status asked
+  done_calls options files work (Err e) before after s p status asked
       loaded is calls ends completed =
       absurd (elim completed [
         | inl zero_is ↦ absurd (omega (arith, zero_is, ends.0))
@@ -179,45 +179,45 @@ more-undone status other is more (inl zero_is) = omega (arith, is, zero_is, more
 more-undone status other is more (inr one_is) = omega (arith, is, one_is, more)
 
 -- nothing is done where all has ended before
-pub undone_incomplete : (words : List (List ℕ)) (l : Loading) (s : Saving) (p : Printing)
+pub undone_incomplete : (words : List (List ℕ)) (s : StoreChange) (p : SinkChange)
     (status : ℕ) →
-    IsUndone (invocation_of words l s p) (Ended status) → IsCompletion status → ⊥
-undone_incomplete words l s p status (inl usage) done = two-undone status done usage.0
-undone_incomplete words l s p status (inr (inl past)) done =
+    IsUndone (invocation_of words s p) (Ended status) → IsCompletion status → ⊥
+undone_incomplete words s p status (inl usage) done = two-undone status done usage.0
+undone_incomplete words s p status (inr (inl past)) done =
     more-undone status 8 past.0 (omega arith) done
-undone_incomplete words l s p status (inr (inr (inl failed))) done =
+undone_incomplete words s p status (inr (inr (inl failed))) done =
     more-undone status 5 failed.0 (omega arith) done
-undone_incomplete words l s p status (inr (inr (inr memory))) done =
+undone_incomplete words s p status (inr (inr (inr memory))) done =
     more-undone status 7 memory.0 (omega arith) done
 
 -- what a build that is asked for came to is of one history
 module _ (tools : Answering) (words : List (List ℕ)) (told : Option (List File)) (given : Built)
     (build : IsAskedOf words told given) where
   -- its files are within the limits
-  never-past : (l : Loading) (fault : LoadFault) → l.told ≡ told →
-      OfListing l.told (λ listing. limit_fault listing ≡ Some fault) → ⊥
-  never-past l fault same past =
+  never-past : (s : StoreChange) (fault : LoadFault) → s.before.tree ≡ told →
+      OfListing s.before.tree (λ listing. limit_fault listing ≡ Some fault) → ⊥
+  never-past s fault same past =
       let here = subst (λ (those : Option (List File)).
       OfListing those (λ listing. limit_fault listing ≡ Some fault)) (same ∙ build.told_are) past in
       cc (sym here ∙ build.within)
 
   -- where all has ended before anything was made, it came to no outcome
-  pub undone_unmade : (l : Loading) (s : Saving) (p : Printing) (status : ℕ) → l.told ≡ told →
-      IsUndone (invocation_of words l s p) (Ended status) → IsUnmade words l s p status
-  undone_unmade l s p status same (inl usage) = absurd (cc (sym usage.1.0 ∙ build.asked))
-  undone_unmade l s p status same (inr (inl past)) =
-      absurd (never-past l past.1.0 same past.1.1)
-  undone_unmade l s p status same (inr (inr unmade)) = unmade
+  pub undone_unmade : (s : StoreChange) (p : SinkChange) (status : ℕ) → s.before.tree ≡ told →
+      IsUndone (invocation_of words s p) (Ended status) → IsUnmade words s p status
+  undone_unmade s p status same (inl usage) = absurd (cc (sym usage.1.0 ∙ build.asked))
+  undone_unmade s p status same (inr (inl past)) =
+      absurd (never-past s past.1.0 same past.1.1)
+  undone_unmade s p status same (inr (inr unmade)) = unmade
 
   module _ (options : Options) (files : List File) (work : Work)
       (asked : options_in words ≡ Some options) (loaded : AreLoaded told files)
       (is : IsWorkAt options files (normal_path [] options.project) work)
-      (l : Loading) (s : Saving) (p : Printing) (status : ℕ) where
+      (s : StoreChange) (p : SinkChange) (status : ℕ) where
     pub made_history : (made : Result Outcome NoMemory) (before after : Called) →
         IfOk made (λ o. AreCallsFor tools options.low work o before after) →
-        EndsMade made l.faults_before l.faults_after s p status →
-        ∥ IsOfHistory tools given build.options.low before after l s p status ∥₁
-        ⊎ IsUnmade words l s p status
+        EndsMade made s p status →
+        ∥ IsOfHistory tools given build.options.low before after s p status ∥₁
+        ⊎ IsUnmade words s p status
     made_history (Ok o) before after calls ends =
         inl (∥∥₁_map (of_build words told given build
         (λ asks w. AreCallsFor tools asks.low w o before after) options files work asked loaded is
@@ -226,8 +226,8 @@ module _ (tools : Answering) (words : List (List ℕ)) (told : Option (List File
 
     pub made_on_nodes : (made : Result Outcome NoMemory) →
         IfOk made (ComesOn tools options.nodes options.low work) →
-        EndsMade made l.faults_before l.faults_after s p status →
-        ∥ IsOfNodes tools given build.options l s p status ∥₁ ⊎ IsUnmade words l s p status
+        EndsMade made s p status →
+        ∥ IsOfNodes tools given build.options s p status ∥₁ ⊎ IsUnmade words s p status
     made_on_nodes (Ok o) comes ends =
         inl (∥∥₁_map (of_build words told given build
         (λ asks w. ComesOn tools asks.nodes asks.low w o) options files work asked loaded is comes)

@@ -33,7 +33,7 @@ use Rattle.request_machine.specs.Worlds.{world_of}
 use Rattle.build_declared.specs.Clean.{GivesClean}
 use Rattle.build_declared.proofs.CleanWorlds.{build-is-clean}
 use Rattle.msb_outcomes.specs.Outcomes.{Answering}
-use Rattle.msb_program.specs.Answers.{Answers, Loading}
+use Rattle.msb_program.specs.Answers.{Answers}
 use Rattle.msb_program.specs.Clean.{
   AnswersClean,
   IsOldOrFinal,
@@ -42,7 +42,7 @@ use Rattle.msb_program.specs.Clean.{
   SavedFinal,
   SavedPart,
 }
-use Rattle.msb_program.specs.Endings.{Kept, Printing, PrintedAll, SavedAll, SavedTo, Saving}
+use Rattle.msb_program.specs.Endings.{Kept, SinkChange, PrintedAll, SavedAll, SavedTo, StoreChange}
 use Rattle.msb_program.specs.Meanings.{AnswersMeant}
 use Rattle.msb_program.proofs.CleanFiles.{part_is_clean, whole_is_clean}
 use Rattle.msb_program.proofs.GivenFiles.{given_told, means_of, told_so}
@@ -55,9 +55,10 @@ unchanged journal (Some files) = λ path. inl refl
 
 -- ---- the answers
 
-module _ (tools : Answering) (words : List (List ℕ)) (l : Loading) (s : Saving) (p : Printing)
-    (status : ℕ) (answers : Answers tools words l s p status) (same : s.before ≡ l.told)
-    (clean : Given Site ToolInput RequestResult) (means : MeansClean tools words l.told clean) where
+module _ (tools : Answering) (words : List (List ℕ)) (s : StoreChange) (p : SinkChange)
+    (status : ℕ) (answers : Answers tools words s p status)
+    (clean : Given Site ToolInput RequestResult)
+    (means : MeansClean tools words s.before.tree clean) where
   -- by what the build means, which gives what the clean build gives
   module _ (out : Given Site ToolInput RequestResult)
       (whole : IsWhole (world_of tools means.given) out)
@@ -65,10 +66,10 @@ module _ (tools : Answering) (words : List (List ℕ)) (l : Loading) (s : Saving
     abbrev meant : Outcome
     meant = built means.build.options.low out.value out.journal
 
-    answers_this : AnswersMeant words l s p meant status
+    answers_this : AnswersMeant words s p meant status
     answers_this =
-        answers_meant tools words l s p status answers meant
-        (means_of tools words l.told means.given means.build out whole
+        answers_meant tools words s p status answers meant
+        (means_of tools words s.before.tree means.given means.build out whole
         (means.steady out whole.means))
 
     same_status : meant.status ≡ status_of clean.value.ok
@@ -82,17 +83,17 @@ module _ (tools : Answering) (words : List (List ℕ)) (l : Loading) (s : Saving
           PrintedAll p (shown_text r out.journal means.build.options.low)) gives.result printed,
     )
 
-    gives_of : (before : List File) → s.before ≡ Some before → GivesClean before out clean
+    gives_of : (before : List File) → s.before.tree ≡ Some before → GivesClean before out clean
     gives_of before is =
         let those : Some means.given.tree.files ≡ Some before =
-        sym (same ∙ given_told words l.told means.given means.build) ∙ is in
+        sym (given_told words s.before.tree means.given means.build) ∙ is in
         let told : means.given.tree.files ≡ before = cc in
         subst (λ files. GivesClean files out clean) told gives
 
     final_saved : SavedAll s meant.commit → SavedFinal s clean.journal
     final_saved saved =
         told_so (HasContents meant.commit)
-        (λ before after. IsFinalTree before clean.journal after) s.before s.after
+        (λ before after. IsFinalTree before clean.journal after) s.before.tree s.after.tree
         (λ before after is contents.
         whole_is_clean before out clean (gives_of before is) after contents)
         saved.contents
@@ -100,7 +101,7 @@ module _ (tools : Answering) (words : List (List ℕ)) (l : Loading) (s : Saving
     part_saved : (place : ℕ) → SavedTo s meant.commit place → SavedPart s clean.journal
     part_saved place saved =
         told_so (AreDoneTo place meant.commit)
-        (λ before after. IsOldOrFinal before clean.journal after) s.before s.after
+        (λ before after. IsOldOrFinal before clean.journal after) s.before.tree s.after.tree
         (λ before after is done.
         part_is_clean before out clean (gives_of before is) place after done)
         saved.done
@@ -108,8 +109,8 @@ module _ (tools : Answering) (words : List (List ℕ)) (l : Loading) (s : Saving
     kept_part : Kept s → SavedPart s clean.journal
     kept_part kept =
         subst (λ (after : Option (List File)).
-        IfSome s.before (λ before. IsSomeAnd after (IsOldOrFinal before clean.journal)))
-        (sym kept) (unchanged clean.journal s.before)
+        IfSome s.before.tree (λ before. IsSomeAnd after (IsOldOrFinal before clean.journal)))
+        (sym kept) (unchanged clean.journal s.before.tree)
 
     stopped_part : (status ≡ 5) ⊎ (status ≡ 7) → SavedPart s clean.journal
     stopped_part (inl five_is) = elim (answers_this.store five_is) [
@@ -121,7 +122,7 @@ module _ (tools : Answering) (words : List (List ℕ)) (l : Loading) (s : Saving
       | inr halfway ↦ part_saved halfway.place halfway.saved
     ]
 
-    answers_so : AnswersClean l s p clean status
+    answers_so : AnswersClean s p clean status
     answers_so = record {
       known = answers_this.known;
       done = λ over.
@@ -135,7 +136,7 @@ module _ (tools : Answering) (words : List (List ℕ)) (l : Loading) (s : Saving
       ];
     }
 
-  pub answers_clean : AnswersClean l s p clean status
+  pub answers_clean : AnswersClean s p clean status
   answers_clean =
       let law = build-is-clean tools means.given clean means.trusted in
       answers_so law.0 law.1 law.2

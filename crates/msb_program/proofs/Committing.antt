@@ -15,13 +15,20 @@ use Rattle.std.proofs.Common.{
   codes,
   arith,
 }
-use Rattle.msb_laws.specs.Faults.{Rose}
 use Rattle.msb_values.specs.Acts.{act_path}
 use Rattle.msb_values.specs.declared.act.Act.{Act}
 use Rattle.build_report.specs.Line.{line}
 use Rattle.build_engine.specs.Statuses.{IsCompletion}
 use Rattle.msb_outcomes.specs.Outcomes.{IsUnfinished}
-use Rattle.msb_program.specs.Endings.{Saving, SavedTo, Printing, Printed, Silent, Ends}
+use Rattle.msb_program.specs.Endings.{
+  StoreChange,
+  StoreFailed,
+  SavedTo,
+  SinkChange,
+  Printed,
+  Silent,
+  Ends,
+}
 use Rattle.build_outcome.specs.declared.outcome.Outcome.{Outcome}
 
 pub completion_of : (status : ℕ) → status ≤ 1 → IsCompletion status ⊎ IsUnfinished status
@@ -31,13 +38,13 @@ completion_of status low (inr (inl (inl three_is))) = absurd (omega arith)
 completion_of status low (inr (inl (inr four_is))) = absurd (omega arith)
 completion_of status low (inr (inr nine_is)) = absurd (omega arith)
 
-module _ (o : Outcome) (before after : ℕ) (s : Saving) (p : Printing)
+module _ (o : Outcome) (s : StoreChange) (p : SinkChange)
     (completion : IsCompletion o.status) where
   -- the store failed at a place
   pub failed_ends : (status place : ℕ) (act : Act) → slice_get o.commit place ≡ Some act
-      → SavedTo s o.commit place → Rose before after
+      → SavedTo s o.commit place → StoreFailed s
       → ((status ≡ 5) × Printed p (line (codes "store fault " ++ act_path act)))
-      ⊎ ((status ≡ 7) × Silent p) → Ends o before after s p status
+      ⊎ ((status ≡ 7) × Silent p) → Ends o s p status
   failed_ends status place act is saved rose (inl told) =
       inr
       (inr

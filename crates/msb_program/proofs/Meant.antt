@@ -36,7 +36,6 @@ use Rattle.std.specs.Coded.{
   coded_ℕ,
   coded_bool,
 }
-use Rattle.msb_laws.specs.Faults.{Rose}
 use Rattle.msb_values.specs.declared.key.InstanceKey.{InstanceKey}
 use Rattle.msb_values.specs.declared.mode.Mode.{Mode}
 use Rattle.msb_values.specs.declared.act.Act.{Act}
@@ -75,12 +74,11 @@ use Rattle.msb_program.specs.Answers.{
   IsStatus,
   IsStatusOf,
   IsPastLimit,
-  Loading,
 }
 use Rattle.msb_program.specs.Endings.{
-  Saving,
+  StoreChange,
   Kept,
-  Printing,
+  SinkChange,
   PrintedAll,
   PrintedFront,
   Silent,
@@ -89,6 +87,8 @@ use Rattle.msb_program.specs.Endings.{
   EndsUnprinted,
   EndsUnwritten,
   EndsHalfway,
+  StoreFailed,
+  SinkFailed,
 }
 use Rattle.msb_program.specs.Meanings.{AnswersMeant, Means}
 use Rattle.msb_outcomes.specs.Outcomes.{
@@ -296,9 +296,9 @@ module _ (tools : Answering) (words : List (List ℕ)) (told : Option (List File
   unasked : (options_in words ≡ None) → ⊥
   unasked none = let apart : None ≡ Some means.build.options = sym none ∙ means.build.asked in cc
 
-  in_limits : {l : Loading} {s : Saving} {p : Printing} → l.told ≡ told → IsPastLimit words l s p →
+  in_limits : {s : StoreChange} {p : SinkChange} → s.before.tree ≡ told → IsPastLimit words s p →
       ⊥
-  in_limits {l} {s} {p} same past =
+  in_limits {s} {p} same past =
       let those : Option (List File) = told in
       let passed : limit_fault (entries_of means.build.files) ≡ Some past.0 =
       subst (λ (those : Option (List File)).
@@ -307,15 +307,15 @@ module _ (tools : Answering) (words : List (List ℕ)) (told : Option (List File
       let apart : None ≡ Some past.0 = sym means.build.within ∙ passed in
       cc
 
-module _ (tools : Answering) (words : List (List ℕ)) (l : Loading) (s : Saving) (p : Printing)
-    (status : ℕ) (answers : Answers tools words l s p status)
-    (meant : Outcome) (means : Means tools words l.told meant) where
-  holds : (P : Outcome → Type 0) → HasOutcome tools words l.told P → P meant
-  holds = holds_meant tools words l.told meant means
+module _ (tools : Answering) (words : List (List ℕ)) (s : StoreChange) (p : SinkChange)
+    (status : ℕ) (answers : Answers tools words s p status)
+    (meant : Outcome) (means : Means tools words s.before.tree meant) where
+  holds : (P : Outcome → Type 0) → HasOutcome tools words s.before.tree P → P meant
+  holds = holds_meant tools words s.before.tree meant means
 
   not_refused : (at : ℕ) → 2 ≤ at → meant.status ≡ at → ⊥
   not_refused at most is =
-      elim (meant_status tools words l.told meant means) [
+      elim (meant_status tools words s.before.tree meant means) [
         | inl zero_is ↦ absurd (omega (arith, zero_is, is, most))
         | inr one_is ↦ absurd (omega (arith, one_is, is, most))
       ]
@@ -325,7 +325,7 @@ module _ (tools : Answering) (words : List (List ℕ)) (l : Loading) (s : Saving
   known_meant (inl zero_is) = inl zero_is
   known_meant (inr (inl one_is)) = inr (inl one_is)
   known_meant (inr (inr (inl two_is))) =
-      absurd (unasked tools words l.told meant means (answers.usage two_is).0)
+      absurd (unasked tools words s.before.tree meant means (answers.usage two_is).0)
   known_meant (inr (inr (inr (inl three_is)))) =
       absurd (not_refused 3 (omega arith)
       (holds (λ o. (o.status ≡ 3) × EndsRefused s p o) (answers.refused three_is)).0)
@@ -337,16 +337,17 @@ module _ (tools : Answering) (words : List (List ℕ)) (l : Loading) (s : Saving
   known_meant (inr (inr (inr (inr (inr (inr (inr (inl seven_is)))))))) =
       inr (inr (inr (inr seven_is)))
   known_meant (inr (inr (inr (inr (inr (inr (inr (inr (inl eight_is))))))))) =
-      absurd (in_limits tools words l.told meant means refl (answers.limited eight_is))
+      absurd (in_limits tools words s.before.tree meant means refl (answers.limited eight_is))
   known_meant (inr (inr (inr (inr (inr (inr (inr (inr (inr nine_is))))))))) =
       absurd (not_refused 9 (omega arith)
       (holds (λ o. (o.status ≡ 9) × EndsRefused s p o) (answers.spent nine_is)).0)
 
   -- what is known of an outcome of the words, or else of a trial, holds of what the build means
   not_tried : (P : Outcome → Type 0) (Q : List ℕ → Type 0) →
-      HasOutcome tools words l.told P ⊎ HasTrial words s Q → P meant
+      HasOutcome tools words s.before.tree P ⊎ HasTrial words s Q → P meant
   not_tried P Q (inl x) = holds P x
-  not_tried P Q (inr x) = absurd (no_trial tools words l.told meant means x.options x.asked x.trial)
+  not_tried P Q (inr x) =
+      absurd (no_trial tools words s.before.tree meant means x.options x.asked x.trial)
 
   done_meant : (status ≡ 0) ⊎ (status ≡ 1) → (status ≡ meant.status) × EndsWhole s p meant
   done_meant (inl zero_is) =
@@ -357,20 +358,22 @@ module _ (tools : Answering) (words : List (List ℕ)) (l : Loading) (s : Saving
       (one_is ∙ sym x.0, x.1)
 
   -- and some legal history of the build leads to it
-  pub done_legal : (status ≡ 0) ⊎ (status ≡ 1) → Legal tools words l.told meant means meant
+  pub done_legal : (status ≡ 0) ⊎ (status ≡ 1) → Legal tools words s.before.tree meant means meant
   done_legal (inl zero_is) = elim (answers.done zero_is) [
-    | inl x ↦ holds_legal tools words l.told meant means (λ o. (o.status ≡ 0) × EndsWhole s p o) x
-    | inr x ↦ absurd (no_trial tools words l.told meant means x.options x.asked x.trial)
+    | inl x ↦
+        holds_legal tools words s.before.tree meant means
+        (λ o. (o.status ≡ 0) × EndsWhole s p o) x
+    | inr x ↦ absurd (no_trial tools words s.before.tree meant means x.options x.asked x.trial)
   ]
   done_legal (inr one_is) =
-      holds_legal tools words l.told meant means (λ o. (o.status ≡ 1) × EndsWhole s p o)
+      holds_legal tools words s.before.tree meant means (λ o. (o.status ≡ 1) × EndsWhole s p o)
       (answers.failed one_is)
 
   store_meant : status ≡ 5 →
-      IsLoadFailure words l s p ⊎ EndsUnwritten l.faults_before l.faults_after s p meant
+      IsLoadFailure words s p ⊎ EndsUnwritten s p meant
   store_meant five_is = elim (answers.store five_is) [
     | inl load ↦ inl load
-    | inr commit ↦ inr (holds (EndsUnwritten l.faults_before l.faults_after s p) commit)
+    | inr commit ↦ inr (holds (EndsUnwritten s p) commit)
   ]
 
   memory_meant : status ≡ 7 → Silent p × (Kept s ⊎ EndsHalfway s meant)
@@ -379,8 +382,8 @@ module _ (tools : Answering) (words : List (List ℕ)) (l : Loading) (s : Saving
       (x.0, elim x.1 [ inl kept ↦ inl kept | inr halfway ↦ inr (holds (EndsHalfway s) halfway) ])
 
   told_meant : (options : Option Options) (told : Option (List File)) → options_in words ≡ options →
-      l.told ≡ told → IsStatusOf tools options told status → status ≡ meant.status
-  told_meant None told none same is = absurd (unasked tools words l.told meant means none)
+      s.before.tree ≡ told → IsStatusOf tools options told status → status ≡ meant.status
+  told_meant None told none same is = absurd (unasked tools words s.before.tree meant means none)
   told_meant (Some options) None asked none is =
       let apart : None ≡ Some means.build.files = sym none ∙ means.build.told_are in
       absurd (nothing apart)
@@ -390,19 +393,19 @@ module _ (tools : Answering) (words : List (List ℕ)) (l : Loading) (s : Saving
   told_meant (Some options) (Some files) asked same (inl is) =
       let outcome = is.1.0 in
       is.1.2 ∙ ap (λ (o : Outcome). o.status)
-      (outcome_meant tools words l.told meant means options files outcome asked
+      (outcome_meant tools words s.before.tree meant means options files outcome asked
       (subst (λ those. IfSome those (λ found. files ≡ found)) (sym same) refl) is.1.1)
   told_meant (Some options) (Some files) asked same (inr trial) =
-      absurd (no_trial tools words l.told meant means options asked trial.0)
+      absurd (no_trial tools words s.before.tree meant means options asked trial.0)
 
-  unfailing_meant : ¬ Rose l.faults_before l.faults_after → ¬ Rose p.faults_before p.faults_after →
+  unfailing_meant : ¬ StoreFailed s → ¬ SinkFailed p →
       (status ≡ 7) ⊎ (status ≡ meant.status)
   unfailing_meant store sink = elim (answers.unfailing store sink) [
     | inl seven_is ↦ inl seven_is
-    | inr is ↦ inr (told_meant (options_in words) l.told refl refl is)
+    | inr is ↦ inr (told_meant (options_in words) s.before.tree refl refl is)
   ]
 
-  pub answers_meant : AnswersMeant words l s p meant status
+  pub answers_meant : AnswersMeant words s p meant status
   answers_meant =
       record {
         known = known_meant answers.known;
@@ -410,7 +413,7 @@ module _ (tools : Answering) (words : List (List ℕ)) (l : Loading) (s : Saving
         store = store_meant;
         sink =
             λ six_is. not_tried (EndsUnprinted s p)
-            (λ text. Rose p.faults_before p.faults_after × PrintedFront p text)
+            (λ text. SinkFailed p × PrintedFront p text)
             (answers.sink six_is);
         memory = memory_meant;
         unfailing = unfailing_meant;

@@ -15,7 +15,6 @@ use Rattle.std.proofs.Common.{
   inl,
   inr,
   subst,
-  ◌∙◌,
 }
 use Rattle.std.proofs.Math.Logic.{∥∥₁_map}
 use Rattle.file_store.specs.Commits.{AreDone}
@@ -44,9 +43,9 @@ use Rattle.build_declared.proofs.SkippedWorlds.{second-build-skips}
 use Rattle.build_declared.proofs.StaysFresh.{stays-fresh, stays-no-older}
 use Rattle.msb_outcomes.specs.Calls.{Called}
 use Rattle.msb_outcomes.specs.Outcomes.{Answering}
-use Rattle.msb_program.specs.Answers.{Answers, Loading}
+use Rattle.msb_program.specs.Answers.{Answers}
 use Rattle.msb_program.specs.Calls.{AreMeantCalls}
-use Rattle.msb_program.specs.Endings.{Printing, PrintedAll, SavedAll, Saving}
+use Rattle.msb_program.specs.Endings.{SinkChange, PrintedAll, SavedAll, StoreChange}
 use Rattle.msb_program.specs.Meanings.{AnswersMeant, IsAskedOf, Means}
 use Rattle.msb_program.specs.NextBuilds.{
   AreCallsOfOthers,
@@ -104,40 +103,40 @@ uses_of_others tools given out skips uses meant = λ u there target has takes.
 
 -- ---- the answers
 
-module _ (tools : Answering) (words : List (List ℕ)) (l : Loading) (s : Saving) (p : Printing)
-    (status : ℕ) (answers : Answers tools words l s p status) where
+module _ (tools : Answering) (words : List (List ℕ)) (s : StoreChange) (p : SinkChange)
+    (status : ℕ) (answers : Answers tools words s p status) where
   -- what is said of the outcome that a build means
-  answers_of : (given : World) (build : IsAskedOf words l.told given)
+  answers_of : (given : World) (build : IsAskedOf words s.before.tree given)
       (out : Given Site ToolInput RequestResult) → IsWhole (world_of tools given) out →
       IsSteady out.demand →
-      AnswersMeant words l s p (built build.options.low out.value out.journal) status
+      AnswersMeant words s p (built build.options.low out.value out.journal) status
   answers_of given build out whole steady =
-      answers_meant tools words l s p status answers
+      answers_meant tools words s p status answers
       (built build.options.low out.value out.journal)
-      (means_of tools words l.told given build out whole steady)
+      (means_of tools words s.before.tree given build out whole steady)
 
-  saved_of : (meant : Outcome) → AnswersMeant words l s p meant status → HasSaved status →
+  saved_of : (meant : Outcome) → AnswersMeant words s p meant status → HasSaved status →
       SavedAll s meant.commit
   saved_of meant answers (inl zero_is) = (answers.done (inl zero_is)).1.0
   saved_of meant answers (inr (inl one_is)) = (answers.done (inr one_is)).1.0
   saved_of meant answers (inr (inr six_is)) = (answers.sink six_is).saved
 
-  module _ (same : s.before ≡ l.told) (left : Tree) (again : Given Site ToolInput RequestResult)
-      (means : MeansRepeated tools words l.told left again) where
+  module _ (left : Tree) (again : Given Site ToolInput RequestResult)
+      (means : MeansRepeated tools words s.before.tree left again) where
     -- the list was done that the build means
-    done : s.after ≡ Some left.files → HasSaved status →
+    done : s.after.tree ≡ Some left.files → HasSaved status →
         AreDone (commit_list means.out.journal) means.given.tree.files left.files
     done left_is saved =
         let meant : Outcome =
         built means.build.options.low means.out.value means.out.journal in
-        told_both (AreDone (commit_list means.out.journal)) s.before s.after
+        told_both (AreDone (commit_list means.out.journal)) s.before.tree s.after.tree
         means.given.tree.files left.files
-        (same ∙ given_told words l.told means.given means.build) left_is
+        (given_told words s.before.tree means.given means.build) left_is
         (saved_of meant (answers_of means.given means.build means.out means.settled.whole
         means.settled.steady) saved).done
 
     -- the tree that is left is one over which the next build may be trusted
-    pub stays_fresh : s.after ≡ Some left.files → HasSaved status →
+    pub stays_fresh : s.after.tree ≡ Some left.files → HasSaved status →
         StaysFresh tools means.given left again
     stays_fresh left_is saved = record {
       fresh = stays-fresh tools means.given left means.clean means.out again means.trusted
@@ -152,7 +151,7 @@ module _ (tools : Answering) (words : List (List ℕ)) (l : Loading) (s : Saving
     }
 
   module _ (clean : Given Site ToolInput RequestResult)
-      (means : MeansUpToDate tools words l.told clean) where
+      (means : MeansUpToDate tools words s.before.tree clean) where
     skips_so : (out : Given Site ToolInput RequestResult) →
         IsWhole (world_of tools means.means.given) out →
         GivesClean means.means.given.tree.files out clean →
@@ -181,9 +180,9 @@ module _ (tools : Answering) (words : List (List ℕ)) (l : Loading) (s : Saving
           outcome = meant;
           ends =
               ((answers_of means.means.given means.means.build out whole steady).done done).1;
-          legal = done_legal tools words l s p status answers meant
-              (means_of tools words l.told means.means.given means.means.build out whole steady)
-              done;
+          legal = done_legal tools words s p status answers meant
+              (means_of tools words s.before.tree means.means.given means.means.build out whole
+              steady) done;
           others = λ events end is.
               uses_of_others tools means.means.given out skips (uses_in w events)
               (are_meant w low out whole steady events end meant is);

@@ -17,6 +17,7 @@ use Rattle.std.proofs.Common.{
 }
 use Rattle.msb_laws.specs.Faults.{Rose}
 use Rattle.file_store.specs.Limits.{limit_fault}
+use Rattle.file_store.specs.Seen.{StoreSeen}
 use Rattle.file_store.specs.Loads.{OfListing, IsCaused, IsOfKind}
 use Rattle.file_store.specs.declared.loading.LoadFault.{LoadFault}
 use Rattle.file_store.specs.declared.loading.LoadFault.TheVariants.{
@@ -40,10 +41,9 @@ use Rattle.msb_outcomes.specs.Outcomes.{
   load_fault_text,
   unloaded,
 }
-use Rattle.msb_program.specs.Endings.{Saving, Kept, Printing, Printed, Silent}
+use Rattle.msb_program.specs.Endings.{StoreChange, Kept, SinkChange, Printed, Silent}
 use Rattle.msb_program.specs.Answers.{
   AsksForProject,
-  Loading,
   LoadFails,
   IsStoreFault,
   IsStatusOf,
@@ -55,27 +55,27 @@ use Rattle.msb_program.specs.declared.top.Prepared.TheVariants.{Ended}
 use Rattle.msb_program.proofs.Claims.{answers_at, memory_answers}
 use Rattle.msb_program.proofs.Parts.{invocation_of}
 
-past_limit : (told : Option (List File)) (fault : LoadFault) (before after : ℕ) →
-    fault_status fault ≡ 8 → IsCaused before after told fault →
-    OfListing told (λ listing. limit_fault listing ≡ Some fault)
-past_limit told Listing before after is caused = absurd (grind arith)
-past_limit told (Reading path) before after is caused = absurd (grind arith)
-past_limit told (Files number) before after is caused = caused
-past_limit told (Bytes total) before after is caused = caused
-past_limit told (Large path) before after is caused = caused
-past_limit told (BadPath path) before after is caused = caused
-past_limit told Memory before after is caused = absurd (grind arith)
+past_limit : (fault : LoadFault) (before after : StoreSeen) →
+    fault_status fault ≡ 8 → IsCaused before after fault →
+    OfListing before.tree (λ listing. limit_fault listing ≡ Some fault)
+past_limit Listing before after is caused = absurd (grind arith)
+past_limit (Reading path) before after is caused = absurd (grind arith)
+past_limit (Files number) before after is caused = caused
+past_limit (Bytes total) before after is caused = caused
+past_limit (Large path) before after is caused = caused
+past_limit (BadPath path) before after is caused = caused
+past_limit Memory before after is caused = absurd (grind arith)
 
-store_fault : (told : Option (List File)) (fault : LoadFault) (before after : ℕ) →
-    fault_status fault ≡ 5 → IsCaused before after told fault →
-    IsStoreFault fault × Rose before after
-store_fault told Listing before after is caused = (inl refl, caused)
-store_fault told (Reading path) before after is caused = (inr (path, refl), caused.0)
-store_fault told (Files number) before after is caused = absurd (grind arith)
-store_fault told (Bytes total) before after is caused = absurd (grind arith)
-store_fault told (Large path) before after is caused = absurd (grind arith)
-store_fault told (BadPath path) before after is caused = absurd (grind arith)
-store_fault told Memory before after is caused = absurd (grind arith)
+store_fault : (fault : LoadFault) (before after : StoreSeen) →
+    fault_status fault ≡ 5 → IsCaused before after fault →
+    IsStoreFault fault × Rose before.fault_count after.fault_count
+store_fault Listing before after is caused = (inl refl, caused)
+store_fault (Reading path) before after is caused = (inr (path, refl), caused.0)
+store_fault (Files number) before after is caused = absurd (grind arith)
+store_fault (Bytes total) before after is caused = absurd (grind arith)
+store_fault (Large path) before after is caused = absurd (grind arith)
+store_fault (BadPath path) before after is caused = absurd (grind arith)
+store_fault Memory before after is caused = absurd (grind arith)
 
 either_status : (fault : LoadFault) → (fault ≡ Memory → ⊥) →
     (fault_status fault ≡ 5) ⊎ (fault_status fault ≡ 8)
@@ -87,12 +87,12 @@ either_status (Large path) never = inr refl
 either_status (BadPath path) never = inr refl
 either_status Memory never = absurd (never refl)
 
-fails : (words : List (List ℕ)) (l : Loading) (s : Saving) (p : Printing) (options : Options)
+fails : (words : List (List ℕ)) (s : StoreChange) (p : SinkChange) (options : Options)
     (fault : LoadFault) → options_in words ≡ Some options → HasProject options →
-    IsCaused l.faults_before l.faults_after l.told fault → IsOfKind l.before l.after fault →
+    IsCaused s.before s.after fault → IsOfKind s.before s.after fault →
     Kept s →
-    Printed p (line (load_fault_text fault)) → LoadFails words l s p fault
-fails words l s p options fault asked project caused kind kept printed = record {
+    Printed p (line (load_fault_text fault)) → LoadFails words s p fault
+fails words s p options fault asked project caused kind kept printed = record {
   asked = subst AsksForProject (sym asked) project;
   cause = caused;
   kind = kind;
@@ -117,63 +117,63 @@ module _ (tools : Answering) where
     ),
   )
 
-  module _ (words : List (List ℕ)) (l : Loading) (s : Saving) (p : Printing) (options : Options)
+  module _ (words : List (List ℕ)) (s : StoreChange) (p : SinkChange) (options : Options)
       (fault : LoadFault) (asked : options_in words ≡ Some options) (project : HasProject options)
-      (caused : IsCaused l.faults_before l.faults_after l.told fault)
-      (kind : IsOfKind l.before l.after fault) (kept : Kept s) where
+      (caused : IsCaused s.before s.after fault)
+      (kind : IsOfKind s.before s.after fault) (kept : Kept s) where
     fault_answers : (status : ℕ) → status ≡ fault_status fault →
         Printed p (line (load_fault_text fault)) →
-        (fault_status fault ≡ 5) ⊎ (fault_status fault ≡ 8) → Answers tools words l s p status
+        (fault_status fault ≡ 5) ⊎ (fault_status fault ≡ 8) → Answers tools words s p status
     fault_answers status is printed (inl five) =
-        let stored = store_fault l.told fault l.faults_before l.faults_after five caused in
-        answers_at tools words l s p 5 (inr (inr (inr (inr (inr (inl refl))))))
+        let stored = store_fault fault s.before s.after five caused in
+        answers_at tools words s p 5 (inr (inr (inr (inr (inr (inl refl))))))
         (inl (
           fault,
           stored.0,
           stored.1,
-          fails words l s p options fault asked project caused kind kept printed,
+          fails words s p options fault asked project caused kind kept printed,
         )) status (is ∙ five)
         (λ store sink. absurd (store stored.1))
     fault_answers status is printed (inr eight) =
-        let past = past_limit l.told fault l.faults_before l.faults_after eight caused in
-        answers_at tools words l s p 8 (inr (inr (inr (inr (inr (inr (inr (inr (inl refl)))))))))
-        (fault, past, fails words l s p options fault asked project caused kind kept printed) status
+        let past = past_limit fault s.before s.after eight caused in
+        answers_at tools words s p 8 (inr (inr (inr (inr (inr (inr (inr (inr (inl refl)))))))))
+        (fault, past, fails words s p options fault asked project caused kind kept printed) status
         (is ∙ eight)
         (λ store sink.
-        inr (subst (λ asks. IsStatusOf tools asks l.told status) (sym asked)
-        (inl (limited_status l.told options fault status project is past))))
+        inr (subst (λ asks. IsStatusOf tools asks s.before.tree status) (sym asked)
+        (inl (limited_status s.before.tree options fault status project is past))))
 
     pub unloaded_answers : (status : ℕ) →
         ((status ≡ fault_status fault) × (fault ≡ Memory → ⊥) × Printed p
         (line (load_fault_text fault))) ⊎ ((status ≡ 7) × Silent p) →
-        Answers tools words l s p status
+        Answers tools words s p status
     unloaded_answers status (inl told) =
         fault_answers status told.0 told.2 (either_status fault told.1)
     unloaded_answers status (inr memory) =
-        memory_answers tools words l s p status memory.0 (memory.1, inl kept)
+        memory_answers tools words s p status memory.0 (memory.1, inl kept)
 
 -- a load that fails comes to no outcome
-module _ (words : List (List ℕ)) (l : Loading) (s : Saving) (p : Printing) (options : Options)
+module _ (words : List (List ℕ)) (s : StoreChange) (p : SinkChange) (options : Options)
     (fault : LoadFault) (asked : options_in words ≡ Some options) (project : HasProject options)
-    (caused : IsCaused l.faults_before l.faults_after l.told fault)
-    (kind : IsOfKind l.before l.after fault) (kept : Kept s) where
-  failed_undone : (status : ℕ) → status ≡ fault_status fault → LoadFails words l s p fault →
+    (caused : IsCaused s.before s.after fault)
+    (kind : IsOfKind s.before s.after fault) (kept : Kept s) where
+  failed_undone : (status : ℕ) → status ≡ fault_status fault → LoadFails words s p fault →
       (fault_status fault ≡ 5) ⊎ (fault_status fault ≡ 8) →
-      IsUndone (invocation_of words l s p) (Ended status)
+      IsUndone (invocation_of words s p) (Ended status)
   failed_undone status is fails (inl five) =
-      let stored = store_fault l.told fault l.faults_before l.faults_after five caused in
+      let stored = store_fault fault s.before s.after five caused in
       inr (inr (inl (is ∙ five, (fault, stored.0, stored.1, fails))))
   failed_undone status is fails (inr eight) =
       inr (inl (
         is ∙ eight,
-        (fault, past_limit l.told fault l.faults_before l.faults_after eight caused, fails),
+        (fault, past_limit fault s.before s.after eight caused, fails),
       ))
 
   pub unloaded_undone : (status : ℕ) → ((status ≡ fault_status fault) × (fault ≡ Memory → ⊥)
       × Printed p (line (load_fault_text fault))) ⊎ ((status ≡ 7) × Silent p) →
-      IsUndone (invocation_of words l s p) (Ended status)
+      IsUndone (invocation_of words s p) (Ended status)
   unloaded_undone status (inl told) =
       failed_undone status told.0
-      (fails words l s p options fault asked project caused kind kept told.2)
+      (fails words s p options fault asked project caused kind kept told.2)
       (either_status fault told.1)
   unloaded_undone status (inr memory) = inr (inr (inr (memory.0, kept, memory.1)))

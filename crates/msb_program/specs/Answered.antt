@@ -25,23 +25,23 @@ use Rattle.msb_program.specs.NextBuilds.{
 -- what the status says of the invocation, and what follows from that
 pub record IsAnswered (tools : Answering) (i : Invocation) (status : ℕ) : Type 0 where
   -- what each status says
-  pub answer : Answers tools i.words i.load i.save i.print status
+  pub answer : Answers tools i.words i.store i.sink status
   -- what it says where the world of the build is whole and steady
-  pub meaning : (meant : Outcome) → Means tools i.words i.load.told meant →
-      AnswersMeant i.words i.load i.save i.print meant status
+  pub meaning : (meant : Outcome) → Means tools i.words i.store.before.tree meant →
+      AnswersMeant i.words i.store i.sink meant status
   -- what it says where a build may be trusted to skip what is up to date
   pub clean : (clean : Given Site ToolInput RequestResult) →
-      MeansClean tools i.words i.load.told clean → AnswersClean i.load i.save i.print clean status
+      MeansClean tools i.words i.store.before.tree clean → AnswersClean i.store i.sink clean status
   -- after a settled build the next one may be trusted too, over the tree that is left, where the
   -- clean build is repeated there
   pub stays : (left : Tree) (again : Given Site ToolInput RequestResult)
-      (m : MeansRepeated tools i.words i.load.told left again) → i.save.after ≡ Some left.files →
-      HasSaved status → StaysFresh tools m.given left again
+      (m : MeansRepeated tools i.words i.store.before.tree left again) →
+      i.store.after.tree ≡ Some left.files → HasSaved status → StaysFresh tools m.given left again
   -- where no output is older than its inputs, each piece is skipped, and that is printed
   pub skips : (clean : Given Site ToolInput RequestResult)
-      (m : MeansUpToDate tools i.words i.load.told clean) → IsCompletion status →
-      PrintedSkips tools m.means.given.tree.files i.print clean.value
+      (m : MeansUpToDate tools i.words i.store.before.tree clean) → IsCompletion status →
+      PrintedSkips tools m.means.given.tree.files i.sink clean.value
   -- and no history that leads to the outcome uses a tool for one
   pub idle : (clean : Given Site ToolInput RequestResult)
-      (m : MeansUpToDate tools i.words i.load.told clean) → IsCompletion status →
-      EndsIdle tools m.means.given m.means.build.options.low i.save i.print
+      (m : MeansUpToDate tools i.words i.store.before.tree clean) → IsCompletion status →
+      EndsIdle tools m.means.given m.means.build.options.low i.store i.sink

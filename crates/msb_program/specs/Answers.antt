@@ -2,15 +2,12 @@
 -- was done to files and printed.
 use Rattle.std.specs.Prelude.{◌≡◌, ◌⊎◌, ◌++◌, ℕ, List, true, Option, Some, None, IfSome, codes}
 use Rattle.msb_laws.specs.Words.{Path, Text}
-use Rattle.msb_laws.specs.Faults.{Rose}
 use Rattle.file_store.specs.Entries.{entries_of}
-use Rattle.file_store.specs.Failed.{Failures}
 use Rattle.file_store.specs.Files.{are_in_order}
 use Rattle.file_store.specs.Limits.{limit_fault}
 use Rattle.file_store.specs.Loads.{OfListing, IsCaused, IsOfKind}
 use Rattle.file_store.specs.declared.loading.LoadFault.{LoadFault}
 use Rattle.file_store.specs.declared.loading.LoadFault.TheVariants.{Listing, Reading}
-use Rattle.file_store.specs.declared.store.Store.{Ghosts as StoreTells}
 use Rattle.file_store.specs.declared.tree.File.{File}
 use Rattle.msb_words.specs.Options.{options_in}
 use Rattle.msb_words.specs.declared.options.Options.{Options}
@@ -18,9 +15,9 @@ use Rattle.msb_words.specs.declared.options.Action.TheVariants.{Build, Check, Tr
 use Rattle.build_report.specs.Line.{line}
 use Rattle.msb_outcomes.specs.Outcomes.{Answering, HasProject, IsOutcomeOf, load_fault_text}
 use Rattle.msb_program.specs.Endings.{
-  Saving,
+  StoreChange,
   Kept,
-  Printing,
+  SinkChange,
   Printed,
   PrintedAll,
   PrintedFront,
@@ -30,28 +27,11 @@ use Rattle.msb_program.specs.Endings.{
   EndsUnprinted,
   EndsUnwritten,
   EndsHalfway,
+  StoreFailed,
+  SinkFailed,
 }
 use Rattle.msb_outcomes.specs.Trials.{IsTrial}
 use Rattle.build_outcome.specs.declared.outcome.Outcome.{Outcome}
-
--- the files that a store tells, its count of faults, and its failed calls by their kinds, before
--- and after the call
-pub record Loading : Type 0 where
-  pub told : Option (List File)
-  pub faults_before : ℕ
-  pub faults_after : ℕ
-  pub before : Failures
-  pub after : Failures
-
--- by what the store's type tells of its values
-abbrev pub loading : {S : Type 0} → StoreTells S → S → S → Loading
-loading store old new = record {
-  told = store.tree old;
-  faults_before = store.fault_count old;
-  faults_after = store.fault_count new;
-  before = store.failures old;
-  after = store.failures new;
-}
 
 abbrev pub usage : Text
 usage =
@@ -80,15 +60,15 @@ AsksForTrial None = ⊥
 AsksForTrial (Some options) = options.action ≡ Trial
 
 -- 2: the words are outside the grammar
-abbrev pub IsUsage : List Text → Saving → Printing → Type 0
+abbrev pub IsUsage : List Text → StoreChange → SinkChange → Type 0
 IsUsage words s p = (options_in words ≡ None) × Kept s × Printed p usage
 
 -- a load fails for this reason, by a call of its kind, and so it is told
-pub record LoadFails (words : List Text) (l : Loading) (s : Saving) (p : Printing)
+pub record LoadFails (words : List Text) (s : StoreChange) (p : SinkChange)
     (fault : LoadFault) : Type 0 where
   pub asked : AsksForProject (options_in words)
-  pub cause : IsCaused l.faults_before l.faults_after l.told fault
-  pub kind : IsOfKind l.before l.after fault
+  pub cause : IsCaused s.before s.after fault
+  pub kind : IsOfKind s.before s.after fault
   pub kept : Kept s
   pub printed : Printed p (line (load_fault_text fault))
 
@@ -96,16 +76,15 @@ pub record LoadFails (words : List Text) (l : Loading) (s : Saving) (p : Printin
 abbrev pub IsStoreFault : LoadFault → Type 0
 IsStoreFault fault = (fault ≡ Listing) ⊎ ((path : Path) × (fault ≡ Reading path))
 
-abbrev pub IsLoadFailure : List Text → Loading → Saving → Printing → Type 0
-IsLoadFailure words l s p =
-    (fault : LoadFault) × IsStoreFault fault × Rose l.faults_before l.faults_after
-    × LoadFails words l s p fault
+abbrev pub IsLoadFailure : List Text → StoreChange → SinkChange → Type 0
+IsLoadFailure words s p =
+    (fault : LoadFault) × IsStoreFault fault × StoreFailed s × LoadFails words s p fault
 
 -- 8: the listing that was got passes a limit
-abbrev pub IsPastLimit : List Text → Loading → Saving → Printing → Type 0
-IsPastLimit words l s p =
-    (fault : LoadFault) × OfListing l.told (λ listing. limit_fault listing ≡ Some fault)
-    × LoadFails words l s p fault
+abbrev pub IsPastLimit : List Text → StoreChange → SinkChange → Type 0
+IsPastLimit words s p =
+    (fault : LoadFault) × OfListing s.before.tree (λ listing. limit_fault listing ≡ Some fault)
+    × LoadFails words s p fault
 
 -- the statuses of the program
 abbrev pub IsStatus : ℕ → Type 0
@@ -114,7 +93,7 @@ IsStatus status =
     ⊎ (status ≡ 5) ⊎ (status ≡ 6) ⊎ (status ≡ 7) ⊎ (status ≡ 8) ⊎ (status ≡ 9)
 
 -- the words ask for a trial, and P holds of a text that it may print; no file is written or removed
-pub record HasTrial (words : List Text) (s : Saving) (P : Text → Type 0) : Type 0 where
+pub record HasTrial (words : List Text) (s : StoreChange) (P : Text → Type 0) : Type 0 where
   pub options : Options
   pub asked : options_in words ≡ Some options
   pub trial : options.action ≡ Trial
@@ -138,42 +117,42 @@ module _ (tools : Answering) where
     pub holds : P outcome
 
   -- 0: what the words ask for was done, its acts were done, and its text was printed whole
-  abbrev pub IsDone : List Text → Option (List File) → Saving → Printing → Type 0
+  abbrev pub IsDone : List Text → Option (List File) → StoreChange → SinkChange → Type 0
   IsDone words told s p =
       HasOutcome words told (λ o. (o.status ≡ 0) × EndsWhole s p o)
       ⊎ HasTrial words s (PrintedAll p)
 
   -- 1: the request failed, or a check has another verdict than that the set is steady; its acts
   -- were done, and its text was printed whole
-  abbrev pub IsFailed : List Text → Option (List File) → Saving → Printing → Type 0
+  abbrev pub IsFailed : List Text → Option (List File) → StoreChange → SinkChange → Type 0
   IsFailed words told s p = HasOutcome words told (λ o. (o.status ≡ 1) × EndsWhole s p o)
 
   -- 3: the project is refused
-  abbrev pub IsRefused : List Text → Option (List File) → Saving → Printing → Type 0
+  abbrev pub IsRefused : List Text → Option (List File) → StoreChange → SinkChange → Type 0
   IsRefused words told s p = HasOutcome words told (λ o. (o.status ≡ 3) × EndsRefused s p o)
 
   -- 4: the build is refused
-  abbrev pub IsStopped : List Text → Option (List File) → Saving → Printing → Type 0
+  abbrev pub IsStopped : List Text → Option (List File) → StoreChange → SinkChange → Type 0
   IsStopped words told s p = HasOutcome words told (λ o. (o.status ≡ 4) × EndsRefused s p o)
 
   -- 9: a check has made as many bodies as it makes
-  abbrev pub IsSpent : List Text → Option (List File) → Saving → Printing → Type 0
+  abbrev pub IsSpent : List Text → Option (List File) → StoreChange → SinkChange → Type 0
   IsSpent words told s p = HasOutcome words told (λ o. (o.status ≡ 9) × EndsRefused s p o)
 
   -- 5: the store's count of faults rose, in the load, or as the acts of an outcome were done
-  abbrev pub IsStoreFailure : List Text → Loading → Saving → Printing → Type 0
-  IsStoreFailure words l s p =
-      IsLoadFailure words l s p
-      ⊎ HasOutcome words l.told (EndsUnwritten l.faults_before l.faults_after s p)
+  abbrev pub IsStoreFailure : List Text → StoreChange → SinkChange → Type 0
+  IsStoreFailure words s p =
+      IsLoadFailure words s p
+      ⊎ HasOutcome words s.before.tree (EndsUnwritten s p)
 
   -- 6: the sink's count of faults rose where all else was done
-  abbrev pub IsSinkFailure : List Text → Option (List File) → Saving → Printing → Type 0
+  abbrev pub IsSinkFailure : List Text → Option (List File) → StoreChange → SinkChange → Type 0
   IsSinkFailure words told s p =
       HasOutcome words told (EndsUnprinted s p)
-      ⊎ HasTrial words s (λ text. Rose p.faults_before p.faults_after × PrintedFront p text)
+      ⊎ HasTrial words s (λ text. SinkFailed p × PrintedFront p text)
 
   -- 7: want of memory, which may come at any place and prints nothing
-  abbrev pub IsMemory : List Text → Option (List File) → Saving → Printing → Type 0
+  abbrev pub IsMemory : List Text → Option (List File) → StoreChange → SinkChange → Type 0
   IsMemory words told s p = Silent p × (Kept s ⊎ HasOutcome words told (EndsHalfway s))
 
   -- the words ask for a project, and the status is that of an outcome of it and the told files
@@ -191,18 +170,18 @@ module _ (tools : Answering) where
       IsStatusOfProject options told status ⊎ ((options.action ≡ Trial) × (status ≡ 0))
 
   -- What each status says.
-  pub record Answers (words : List Text) (l : Loading) (s : Saving) (p : Printing)
+  pub record Answers (words : List Text) (s : StoreChange) (p : SinkChange)
       (status : ℕ) : Type 0 where
     pub known : IsStatus status
-    pub done : status ≡ 0 → IsDone words l.told s p
-    pub failed : status ≡ 1 → IsFailed words l.told s p
+    pub done : status ≡ 0 → IsDone words s.before.tree s p
+    pub failed : status ≡ 1 → IsFailed words s.before.tree s p
     pub usage : status ≡ 2 → IsUsage words s p
-    pub refused : status ≡ 3 → IsRefused words l.told s p
-    pub stopped : status ≡ 4 → IsStopped words l.told s p
-    pub store : status ≡ 5 → IsStoreFailure words l s p
-    pub sink : status ≡ 6 → IsSinkFailure words l.told s p
-    pub memory : status ≡ 7 → IsMemory words l.told s p
-    pub limited : status ≡ 8 → IsPastLimit words l s p
-    pub spent : status ≡ 9 → IsSpent words l.told s p
-    pub unfailing : ¬ Rose l.faults_before l.faults_after → ¬ Rose p.faults_before p.faults_after →
-        (status ≡ 7) ⊎ IsStatusOf (options_in words) l.told status
+    pub refused : status ≡ 3 → IsRefused words s.before.tree s p
+    pub stopped : status ≡ 4 → IsStopped words s.before.tree s p
+    pub store : status ≡ 5 → IsStoreFailure words s p
+    pub sink : status ≡ 6 → IsSinkFailure words s.before.tree s p
+    pub memory : status ≡ 7 → IsMemory words s.before.tree s p
+    pub limited : status ≡ 8 → IsPastLimit words s p
+    pub spent : status ≡ 9 → IsSpent words s.before.tree s p
+    pub unfailing : ¬ StoreFailed s → ¬ SinkFailed p →
+        (status ≡ 7) ⊎ IsStatusOf (options_in words) s.before.tree status

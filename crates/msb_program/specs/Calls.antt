@@ -14,8 +14,8 @@ use Rattle.request_machine.specs.Worlds.{world_of}
 use Rattle.msb_outcomes.specs.Calls.{Called, as_uses}
 use Rattle.msb_outcomes.specs.Outcomes.{Answering}
 use Rattle.msb_words.specs.declared.options.Options.{Options}
-use Rattle.msb_program.specs.Answers.{IsLoadFailure, IsPastLimit, IsUsage, Loading}
-use Rattle.msb_program.specs.Endings.{Saving, Kept, Printing, Silent, Ends}
+use Rattle.msb_program.specs.Answers.{IsLoadFailure, IsPastLimit, IsUsage}
+use Rattle.msb_program.specs.Endings.{StoreChange, Kept, SinkChange, Silent, Ends}
 use Rattle.msb_program.specs.Invocation.{Invocation}
 use Rattle.msb_program.specs.Meanings.{IsAskedOf}
 use Rattle.msb_program.specs.declared.top.Prepared.{Prepared}
@@ -33,46 +33,46 @@ pub record AreMeantCalls (out : Given Site ToolInput RequestResult) (before afte
 -- node takes the least ready request each time, the calls from one list to the other are those of
 -- that history, and so it ended
 pub record IsOfHistory (tools : Answering) (given : World) (low : Bool) (before after : Called)
-    (l : Loading) (s : Saving) (p : Printing) (status : ℕ) : Type 0 where
+    (s : StoreChange) (p : SinkChange) (status : ℕ) : Type 0 where
   pub outcome : Outcome
   pub used : IsUsedFor (world_of tools given) low outcome (as_uses before) (as_uses after)
-  pub ends : Ends outcome l.faults_before l.faults_after s p status
+  pub ends : Ends outcome s p status
 
 -- whatever the world: what the build came to is the outcome of a legal history of as many nodes as
 -- the words tell, one of which has not retired, and so it ended
-pub record IsOfNodes (tools : Answering) (given : World) (options : Options) (l : Loading)
-    (s : Saving) (p : Printing) (status : ℕ) : Type 0 where
+pub record IsOfNodes (tools : Answering) (given : World) (options : Options) (s : StoreChange)
+    (p : SinkChange) (status : ℕ) : Type 0 where
   pub outcome : Outcome
   pub is : IsOutcomeOn (world_of tools given) options.nodes options.low outcome
-  pub ends : Ends outcome l.faults_before l.faults_after s p status
+  pub ends : Ends outcome s p status
 
 -- a build came to no outcome: its files could not be loaded, or no memory was found before there
 -- was one
-abbrev pub IsUnmade : List Text → Loading → Saving → Printing → ℕ → Type 0
-IsUnmade words l s p status =
-    ((status ≡ 5) × IsLoadFailure words l s p) ⊎ ((status ≡ 7) × Kept s × Silent p)
+abbrev pub IsUnmade : List Text → StoreChange → SinkChange → ℕ → Type 0
+IsUnmade words s p status =
+    ((status ≡ 5) × IsLoadFailure words s p) ⊎ ((status ≡ 7) × Kept s × Silent p)
 
 -- Whatever the world, what a build that the words ask for came to is of one history of one node, or
 -- it came to no outcome.
 abbrev pub ComesOfHistory : Answering → Invocation → Called → Called → ℕ → Type 0
 ComesOfHistory tools i before after status =
-    (given : World) (build : IsAskedOf i.words i.load.told given) →
-    ∥ IsOfHistory tools given build.options.low before after i.load i.save i.print status ∥₁
-    ⊎ IsUnmade i.words i.load i.save i.print status
+    (given : World) (build : IsAskedOf i.words i.store.before.tree given) →
+    ∥ IsOfHistory tools given build.options.low before after i.store i.sink status ∥₁
+    ⊎ IsUnmade i.words i.store i.sink status
 
 -- Whatever the world, what a build that the words ask for came to is of one history of as many
 -- nodes as they tell, or it came to no outcome.
 abbrev pub ComesOfNodes : Answering → Invocation → ℕ → Type 0
 ComesOfNodes tools i status =
-    (given : World) (build : IsAskedOf i.words i.load.told given) →
-    ∥ IsOfNodes tools given build.options i.load i.save i.print status ∥₁
-    ⊎ IsUnmade i.words i.load i.save i.print status
+    (given : World) (build : IsAskedOf i.words i.store.before.tree given) →
+    ∥ IsOfNodes tools given build.options i.store i.sink status ∥₁
+    ⊎ IsUnmade i.words i.store i.sink status
 
 -- where all has ended before anything was made, nothing was made
 abbrev pub IsUndone : Invocation → Prepared → Type 0
 IsUndone i (Ended status) =
-    ((status ≡ 2) × IsUsage i.words i.save i.print)
-    ⊎ ((status ≡ 8) × IsPastLimit i.words i.load i.save i.print)
-    ⊎ IsUnmade i.words i.load i.save i.print status
+    ((status ≡ 2) × IsUsage i.words i.store i.sink)
+    ⊎ ((status ≡ 8) × IsPastLimit i.words i.store i.sink)
+    ⊎ IsUnmade i.words i.store i.sink status
 IsUndone i (Trial options) = Unit {0}
 IsUndone i (Ready options work) = Unit {0}

@@ -1,8 +1,8 @@
 -- What a status of the program says where a build may be trusted to skip what is up to date: its
 -- result and its files are those of the clean build. (Incremental builds)
-use Rattle.std.specs.Prelude.{◌≡◌, ◌⊎◌, ℕ, Bool, List, Option, Some, IfSome, IsSomeAnd}
+use Rattle.std.specs.Prelude.{◌≡◌, ◌⊎◌, ℕ, Bool, List, Option, Some}
 use Rattle.msb_laws.specs.Words.{Path, Text}
-use Rattle.msb_laws.specs.Faults.{Rose}
+use Rattle.file_store.specs.Seen.{OfTrees}
 use Rattle.file_store.specs.declared.tree.File.{File}
 use Rattle.result_cache.specs.declared.request.RequestResult.{RequestResult}
 use Rattle.result_cache.specs.Journal.{Journal}
@@ -19,8 +19,7 @@ use Rattle.request_machine.specs.Worlds.{world_of}
 use Rattle.build_declared.specs.Clean.{IsTrustworthy}
 use Rattle.build_declared.specs.Written.{bytes_in}
 use Rattle.msb_outcomes.specs.Outcomes.{Answering}
-use Rattle.msb_program.specs.Answers.{Loading}
-use Rattle.msb_program.specs.Endings.{Saving, Printing, PrintedAll}
+use Rattle.msb_program.specs.Endings.{StoreChange, SinkChange, PrintedAll, StoreFailed, SinkFailed}
 use Rattle.msb_program.specs.Meanings.{IsAskedOf}
 
 -- The words ask for a build of the files that the store tells. The clean build of what it is given
@@ -34,8 +33,8 @@ pub record MeansClean (tools : Answering) (words : List Text) (told : Option (Li
       meaning (world_of tools given) ≡ Some out → IsSteady out.demand
 
 -- each path has what a build with this journal leaves there
-abbrev pub SavedFinal : Saving → Journal → Type 0
-SavedFinal s journal = IfSome s.before (λ files. IsSomeAnd s.after (IsFinalTree files journal))
+abbrev pub SavedFinal : StoreChange → Journal → Type 0
+SavedFinal s journal = OfTrees (λ files. IsFinalTree files journal) s.before s.after
 
 -- each path has the bytes that it had, or what a build with this journal leaves there
 abbrev pub IsOldOrFinal : List File → Journal → List File → Type 0
@@ -44,17 +43,17 @@ IsOldOrFinal before journal after =
     (bytes_in after path ≡ bytes_in before path)
     ⊎ (bytes_in after path ≡ content (record { files = before; journal = journal }) path)
 
-abbrev pub SavedPart : Saving → Journal → Type 0
-SavedPart s journal = IfSome s.before (λ files. IsSomeAnd s.after (IsOldOrFinal files journal))
+abbrev pub SavedPart : StoreChange → Journal → Type 0
+SavedPart s journal = OfTrees (λ files. IsOldOrFinal files journal) s.before s.after
 
 -- The whole text was printed of a build whose root request gives this: its error text, the items
 -- that it returns, and how the build ended. What is printed of the runs tells what was skipped.
-abbrev pub PrintedOf : Printing → RequestResult → Type 0
+abbrev pub PrintedOf : SinkChange → RequestResult → Type 0
 PrintedOf p root = (journal : Journal) × (low : Bool) × PrintedAll p (shown_text root journal low)
 
 -- What each status then says: how the build ends, what it returns, and what it leaves at each path
 -- is what the clean build comes to.
-pub record AnswersClean (l : Loading) (s : Saving) (p : Printing)
+pub record AnswersClean (s : StoreChange) (p : SinkChange)
     (clean : Given Site ToolInput RequestResult) (status : ℕ) : Type 0 where
   pub known : (status ≡ 0) ⊎ (status ≡ 1) ⊎ (status ≡ 5) ⊎ (status ≡ 6) ⊎ (status ≡ 7)
   pub done : (status ≡ 0) ⊎ (status ≡ 1) →
@@ -62,5 +61,5 @@ pub record AnswersClean (l : Loading) (s : Saving) (p : Printing)
       × SavedFinal s clean.journal × PrintedOf p clean.value
   pub sink : status ≡ 6 → SavedFinal s clean.journal
   pub part : (status ≡ 5) ⊎ (status ≡ 7) → SavedPart s clean.journal
-  pub unfailing : ¬ Rose l.faults_before l.faults_after → ¬ Rose p.faults_before p.faults_after →
+  pub unfailing : ¬ StoreFailed s → ¬ SinkFailed p →
       (status ≡ 7) ⊎ (status ≡ status_of clean.value.ok)

@@ -2,7 +2,6 @@
 -- its text are those of its meaning. (MSBuild command-line reference)
 use Rattle.std.specs.Prelude.{◌≡◌, ◌⊎◌, ℕ, List, [], Option, Some, None}
 use Rattle.msb_laws.specs.Words.{Text}
-use Rattle.msb_laws.specs.Faults.{Rose}
 use Rattle.file_store.specs.Entries.{entries_of}
 use Rattle.file_store.specs.Limits.{limit_fault}
 use Rattle.file_store.specs.declared.tree.File.{File}
@@ -18,16 +17,18 @@ use Rattle.request_machine.specs.Walk.{Site}
 use Rattle.request_machine.specs.Worlds.{world_of}
 use Rattle.msb_words.specs.Options.{options_in}
 use Rattle.msb_words.specs.declared.options.Options.{Options}
-use Rattle.msb_program.specs.Answers.{Loading, IsLoadFailure}
+use Rattle.msb_program.specs.Answers.{IsLoadFailure}
 use Rattle.msb_program.specs.Endings.{
-  Saving,
+  StoreChange,
   Kept,
-  Printing,
+  SinkChange,
   Silent,
   EndsWhole,
   EndsUnprinted,
   EndsUnwritten,
   EndsHalfway,
+  StoreFailed,
+  SinkFailed,
 }
 use Rattle.msb_outcomes.specs.Outcomes.{Answering, IsWorkAt}
 use Rattle.msb_outcomes.specs.declared.work.Work.TheVariants.{Build}
@@ -54,13 +55,13 @@ pub record Means (tools : Answering) (words : List Text) (told : Option (List Fi
 
 -- What each status then says: the build is not refused, and its files and its text are those of the
 -- meaning's outcome.
-pub record AnswersMeant (words : List Text) (l : Loading) (s : Saving) (p : Printing)
+pub record AnswersMeant (words : List Text) (s : StoreChange) (p : SinkChange)
     (meant : Outcome) (status : ℕ) : Type 0 where
   pub known : (status ≡ 0) ⊎ (status ≡ 1) ⊎ (status ≡ 5) ⊎ (status ≡ 6) ⊎ (status ≡ 7)
   pub done : (status ≡ 0) ⊎ (status ≡ 1) → (status ≡ meant.status) × EndsWhole s p meant
-  pub store : status ≡ 5 → IsLoadFailure words l s p
-      ⊎ EndsUnwritten l.faults_before l.faults_after s p meant
+  pub store : status ≡ 5 → IsLoadFailure words s p
+      ⊎ EndsUnwritten s p meant
   pub sink : status ≡ 6 → EndsUnprinted s p meant
   pub memory : status ≡ 7 → Silent p × (Kept s ⊎ EndsHalfway s meant)
-  pub unfailing : ¬ Rose l.faults_before l.faults_after → ¬ Rose p.faults_before p.faults_after
+  pub unfailing : ¬ StoreFailed s → ¬ SinkFailed p
       → (status ≡ 7) ⊎ (status ≡ meant.status)

@@ -31,7 +31,7 @@ use Rattle.msb_outcomes.specs.Calls.{Called}
 use Rattle.msb_outcomes.specs.Outcomes.{Answering}
 use Rattle.msb_program.specs.Calls.{AreMeantCalls}
 use Rattle.msb_program.specs.Clean.{MeansClean}
-use Rattle.msb_program.specs.Endings.{EndsWhole, Printing, PrintedAll, Saving}
+use Rattle.msb_program.specs.Endings.{EndsWhole, SinkChange, PrintedAll, StoreChange}
 use Rattle.msb_program.specs.Meanings.{IsAskedOf}
 
 -- ---- what a build leaves
@@ -79,7 +79,7 @@ SkipsAll tools files journal =
     IsOfSkipped tools files target run made
 
 -- the whole text was printed of such a build, whose root request gives this
-abbrev pub PrintedSkips : Answering → List File → Printing → RequestResult → Type 0
+abbrev pub PrintedSkips : Answering → List File → SinkChange → RequestResult → Type 0
 PrintedSkips tools files p root =
     (journal : Journal) × (low : Bool)
     × SkipsAll tools files journal × PrintedAll p (shown_text root journal low)
@@ -92,8 +92,8 @@ AreUsesOfOthers files uses =
 
 -- What was done to files and printed is an outcome of the build, to which some legal history leads;
 -- and in each that leads to it no run of a target with Inputs and Outputs uses a tool.
-pub record EndsIdle (tools : Answering) (given : World) (low : Bool) (s : Saving) (p : Printing)
-    : Type 0 where
+pub record EndsIdle (tools : Answering) (given : World) (low : Bool) (s : StoreChange)
+    (p : SinkChange) : Type 0 where
   pub outcome : Outcome
   pub ends : EndsWhole s p outcome
   pub legal : ∥ IsOutcome (world_of tools given) low outcome ∥₁

@@ -7,8 +7,8 @@ use Rattle.msb_paths.specs.Refused.{normal_path}
 use Rattle.msb_words.specs.Options.{options_in}
 use Rattle.msb_words.specs.declared.options.Action.TheVariants.{Trial as ToTry}
 use Rattle.msb_words.specs.declared.options.Options.{Options}
-use Rattle.msb_program.specs.Answers.{Answers, AreLoaded, Loading}
-use Rattle.msb_program.specs.Endings.{Saving, Kept, Printing, Silent}
+use Rattle.msb_program.specs.Answers.{Answers, AreLoaded}
+use Rattle.msb_program.specs.Endings.{StoreChange, Kept, SinkChange}
 use Rattle.msb_program.specs.Invocation.{Invocation}
 use Rattle.msb_outcomes.specs.Outcomes.{Answering, HasProject, IsWorkAt}
 use Rattle.msb_program.specs.declared.top.Prepared.{Prepared}
@@ -16,35 +16,33 @@ use Rattle.msb_program.specs.declared.top.Prepared.TheVariants.{Ended, Ready, Tr
 use Rattle.msb_outcomes.specs.declared.work.Work.{Work}
 
 -- the words ask for this trial; no file was touched, and nothing printed
-pub record IsTrialAsked (words : List Text) (s : Saving) (p : Printing)
+pub record IsTrialAsked (words : List Text) (s : StoreChange) (p : SinkChange)
     (options : Options) : Type 0 where
   pub asked : options_in words ≡ Some options
   pub nodes : (0 < options.nodes) × (options.nodes ≤ 64)
   pub trial : options.action ≡ ToTry
   pub kept : Kept s
-  pub silent : Silent p
-  pub unfailing : p.faults_after ≡ p.faults_before
+  pub silent : p.after ≡ p.before
 
 -- the words ask for this work over loaded files; no file was touched, and nothing printed
-pub record IsReady (words : List Text) (l : Loading) (s : Saving) (p : Printing)
+pub record IsReady (words : List Text) (s : StoreChange) (p : SinkChange)
     (options : Options) (work : Work) : Type 0 where
   pub asked : options_in words ≡ Some options
   pub project : HasProject options
   pub nodes : (0 < options.nodes) × (options.nodes ≤ 64)
   pub files : List File
-  pub loaded : AreLoaded l.told files
+  pub loaded : AreLoaded s.before.tree files
   pub is : IsWorkAt options files (normal_path [] options.project) work
   pub kept : Kept s
-  pub later : l.faults_before ≤ l.faults_after
-  pub silent : Silent p
-  pub unfailing : p.faults_after ≡ p.faults_before
+  pub later : s.before.fault_count ≤ s.after.fault_count
+  pub silent : p.after ≡ p.before
 
 -- all is done, whatever tools answer; or a trial or work is left
 abbrev pub IsPrepared : Invocation → Prepared → Type 0
 IsPrepared i (Ended status) =
-    (tools : Answering) → Answers tools i.words i.load i.save i.print status
-IsPrepared i (Trial options) = IsTrialAsked i.words i.save i.print options
-IsPrepared i (Ready options work) = IsReady i.words i.load i.save i.print options work
+    (tools : Answering) → Answers tools i.words i.store i.sink status
+IsPrepared i (Trial options) = IsTrialAsked i.words i.store i.sink options
+IsPrepared i (Ready options work) = IsReady i.words i.store i.sink options work
 
 -- what is left to do of the words over the files of a tree
 abbrev pub IsLeft : Options → List File → Prepared → Type 0

@@ -7,7 +7,6 @@ ghost use Rattle.std.specs.Prelude.{
   IfOk,
   codes,
 };
-ghost use Rattle.msb_laws.specs.Faults.{Rose};
 ghost use Rattle.file_store.specs.declared.loading.LoadFault.TheVariants.{Memory};
 ghost use Rattle.result_cache.specs.declared.request.RequestResult.{RequestResult};
 ghost use Rattle.task_trait.specs.Tools.{BeginsWith};
@@ -40,8 +39,9 @@ ghost use Rattle.msb_program.specs.Endings.{
   PrintedAll,
   PrintedFront,
   Silent,
-  printing,
-  saving,
+  SinkFailed,
+  sink_change,
+  store_change,
 };
 ghost use Rattle.msb_program.specs.Invocation.{invocation};
 ghost use Rattle.msb_program.specs.Meanings.{Means};
@@ -95,9 +95,9 @@ pub fn run<R: Threads + Wait + Sync, S: Store, K: Sink, T: Tools + Sync>(
     sink: &mut K,
     tools: &T,
 ) -> u8
-    ensures answer { IsAnswered T.answer (invocation S.Store K.Sink words.now
+    ensures answer { IsAnswered T.answer (invocation S.seen K.seen words.now
         store.old store.new sink.old sink.new) result }
-    ensures nodes { ComesOfNodes T.answer (invocation S.Store K.Sink words.now
+    ensures nodes { ComesOfNodes T.answer (invocation S.seen K.seen words.now
         store.old store.new sink.old sink.new) result }
     ensures untouched { AsksForTrial (options_in (map string_bytes words.now)) →
         store.new ≡ store.old }
@@ -127,15 +127,15 @@ pub fn run_alone<S: Store, K: Sink, T: CountedTools>(
     sink: &mut K,
     tools: &mut T,
 ) -> u8
-    ensures answer { IsAnswered T.answer (invocation S.Store K.Sink words.now
+    ensures answer { IsAnswered T.answer (invocation S.seen K.seen words.now
         store.old store.new sink.old sink.new) result }
-    ensures history { ComesOfHistory T.answer (invocation S.Store K.Sink words.now
+    ensures history { ComesOfHistory T.answer (invocation S.seen K.seen words.now
         store.old store.new sink.old sink.new) (T.calls tools.old) (T.calls tools.new) result }
     ensures calls { (meant : TheOutcome)
-        (m : Means T.answer (map string_bytes words.now) (S.tree store.old) meant) →
+        (m : Means T.answer (map string_bytes words.now) (S.seen store.old).tree meant) →
         IsCompletion result → ∥ AreMeantCalls m.out (T.calls tools.old) (T.calls tools.new) ∥₁ }
     ensures idle { (clean : Given Site ToolInput RequestResult)
-        (m : MeansUpToDate T.answer (map string_bytes words.now) (S.tree store.old) clean) →
+        (m : MeansUpToDate T.answer (map string_bytes words.now) (S.seen store.old).tree clean) →
         IsCompletion result →
         ∥ AreCallsOfOthers T.answer m.means.given (T.calls tools.old) (T.calls tools.new) ∥₁ }
     ensures uncalled { (AsksForRuns (options_in (map string_bytes words.now)) → ⊥) →
@@ -173,9 +173,9 @@ fn prepare<S: Store, K: Sink>(
     store: &mut S,
     sink: &mut K,
 ) -> Prepared
-    ensures prepared { IsPrepared (invocation S.Store K.Sink words.now
+    ensures prepared { IsPrepared (invocation S.seen K.seen words.now
         store.old store.new sink.old sink.new) result }
-    ensures undone { IsUndone (invocation S.Store K.Sink words.now
+    ensures undone { IsUndone (invocation S.seen K.seen words.now
         store.old store.new sink.old sink.new) result }
     ensures untouched { AsksForTrial (options_in (map string_bytes words.now)) →
         store.new ≡ store.old }
@@ -216,8 +216,8 @@ fn end<S: Store, K: Sink>(
     sink: &mut K,
 ) -> u8
     requires { IfOk outcome (λ o. IsCompletion o.status ⊎ IsUnfinished o.status) }
-    ensures { EndsMade outcome (S.fault_count store.old) (S.fault_count store.new)
-        (saving S.Store store.old store.new) (printing K.Sink sink.old sink.new) result }
+    ensures { EndsMade outcome (store_change S.seen store.old store.new)
+        (sink_change K.seen sink.old sink.new) result }
 {
     match outcome {
         Ok(outcome) => commit_and_print(alloc, &outcome, store, sink),
@@ -227,7 +227,7 @@ fn end<S: Store, K: Sink>(
 
 // Ends a trial: its text is printed.
 fn end_trial<K: Sink>(text: Result<Text8, NoMemory>, sink: &mut K) -> u8
-    ensures { EndsTrial text (printing K.Sink sink.old sink.new) result }
+    ensures { EndsTrial text (sink_change K.seen sink.old sink.new) result }
 {
     match text {
         Ok(text) => tell(sink, 0, text.as_bytes()),
@@ -243,8 +243,8 @@ fn commit_and_print<S: Store, K: Sink>(
     sink: &mut K,
 ) -> u8
     requires { IsCompletion outcome.now.status ⊎ IsUnfinished outcome.now.status }
-    ensures { Ends outcome.now (S.fault_count store.old) (S.fault_count store.new)
-        (saving S.Store store.old store.new) (printing K.Sink sink.old sink.new) result }
+    ensures { Ends outcome.now (store_change S.seen store.old store.new)
+        (sink_change K.seen sink.old sink.new) result }
 {
     if outcome.status > 1 {
         print(sink, outcome.text.as_bytes());
@@ -265,9 +265,9 @@ fn commit_and_print<S: Store, K: Sink>(
 
 // Prints the text of an outcome whose acts are done.
 fn tell<K: Sink>(sink: &mut K, status: u8, text: &[u8]) -> u8
-    ensures { ((result ≡ status) × PrintedAll (printing K.Sink sink.old sink.new) text.now)
-        ⊎ ((result ≡ 6) × Rose (K.fault_count sink.old) (K.fault_count sink.new)
-        × PrintedFront (printing K.Sink sink.old sink.new) text.now) }
+    ensures { ((result ≡ status) × PrintedAll (sink_change K.seen sink.old sink.new) text.now)
+        ⊎ ((result ≡ 6) × SinkFailed (sink_change K.seen sink.old sink.new)
+        × PrintedFront (sink_change K.seen sink.old sink.new) text.now) }
 {
     match sink.write(text) {
         Ok(()) => status,
@@ -277,16 +277,16 @@ fn tell<K: Sink>(sink: &mut K, status: u8, text: &[u8]) -> u8
 
 // Prints a text whose status stands, whatever the sink does.
 fn print<K: Sink>(sink: &mut K, text: &[u8])
-    ensures { Printed (printing K.Sink sink.old sink.new) text.now }
+    ensures { Printed (sink_change K.seen sink.old sink.new) text.now }
 {
     let _ = sink.write(text);
 }
 
 // Prints which file the store failed to write or to remove.
 fn print_write_fault<K: Sink>(alloc: Global, path: &str, sink: &mut K) -> u8
-    ensures { ((result ≡ 5) × Printed (printing K.Sink sink.old sink.new)
+    ensures { ((result ≡ 5) × Printed (sink_change K.seen sink.old sink.new)
         (line (codes "store fault " ++ path.now)))
-        ⊎ ((result ≡ 7) × Silent (printing K.Sink sink.old sink.new)) }
+        ⊎ ((result ≡ 7) × Silent (sink_change K.seen sink.old sink.new)) }
 {
     match path_line(alloc, "store fault ", path) {
         Ok(text) => {
@@ -300,8 +300,8 @@ fn print_write_fault<K: Sink>(alloc: Global, path: &str, sink: &mut K) -> u8
 // Prints why the store's files are not loaded.
 fn print_load_fault<K: Sink>(alloc: Global, fault: &LoadFault, sink: &mut K) -> u8
     ensures { ((result ≡ fault_status fault.now) × (fault.now ≡ Memory → ⊥)
-        × Printed (printing K.Sink sink.old sink.new) (line (load_fault_text fault.now)))
-        ⊎ ((result ≡ 7) × Silent (printing K.Sink sink.old sink.new)) }
+        × Printed (sink_change K.seen sink.old sink.new) (line (load_fault_text fault.now)))
+        ⊎ ((result ≡ 7) × Silent (sink_change K.seen sink.old sink.new)) }
 {
     match fault_text(alloc, fault) {
         Ok(text) => {

@@ -5,13 +5,17 @@ use Rattle.file_store.proofs.loading.load.Goals as goal
 
 pub returns-clause-cause : goal.returns-clause-cause
 returns-clause-cause g c =
-    failed _ _ _ _ c.in-Ok.entries c.load_files.result c.in-Ok.ensures.cause.later
+    failed (g.S.Store.seen c.args.store.now) (g.S.Store.seen c.list.new.self)
+    (g.S.Store.seen c.load_files.new.store) c.in-Ok.entries c.load_files.result
+    c.in-Ok.ensures.cause.later
     (record { in_order = c.in-Ok.ensures.order; told = c.in-Ok.ensures.all })
     (rw c.as_slice.ensures at c.in_ok-check_limits.ensures)
     (rw c.as_slice-2.ensures at c.load_files.ensures.cause)
 
 pub returns-clause-kind : goal.returns-clause-kind
-returns-clause-kind g c = load_kind _ _ _ _ _ _ c.load_files.result c.in-Ok.ensures.kind.no_read
+returns-clause-kind g c =
+    load_kind _ (g.S.Store.seen c.args.store.now) (g.S.Store.seen c.list.new.self)
+    (g.S.Store.seen c.load_files.new.store) c.load_files.result c.in-Ok.ensures.kind.no_read
     c.load_files.ensures.cause c.load_files.ensures.kind
 
 pub returns-clause-limited : goal.returns-clause-limited

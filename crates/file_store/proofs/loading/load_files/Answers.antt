@@ -10,14 +10,17 @@ returns-in_err-load_file-clause-cause g c =
     let l = c.loop-entry in
     let p = err_from_is_err_and c.from_residual.result c.from_residual.ensures.1 in
     rw (p.1, p.2)
-    (read_among _ _ _ c.args.entries.now l.entry-index c.entry-item.result _ l.invariant.later
-    c.loop-entry-test.true c.entry-item.is c.in_err-load_file.ensures.cause)
+    (read_among (g.S.Store.seen c.args.store.now) (g.S.Store.seen l.store)
+    (g.S.Store.seen c.load_file.new.store) c.args.entries.now l.entry-index c.entry-item.result _
+    l.invariant.later c.loop-entry-test.true c.entry-item.is c.in_err-load_file.ensures.cause)
 
 pub returns-in_err-load_file-clause-kind : goal.returns-in_err-load_file-clause-kind
 returns-in_err-load_file-clause-kind g c =
+    let l = c.loop-entry in
     let p = err_from_is_err_and c.from_residual.result c.from_residual.ensures.1 in
     rw (p.1, p.2)
-    (read_kind _ _ _ _ _ _ _ c.loop-entry.invariant.reads c.in_err-load_file.ensures.cause
+    (read_kind _ (g.S.Store.seen c.args.store.now) (g.S.Store.seen l.store)
+    (g.S.Store.seen c.load_file.new.store) _ l.invariant.reads c.in_err-load_file.ensures.cause
     c.in_err-load_file.ensures.kind)
 
 pub loop-entry-preserved : goal.loop-entry-preserved

@@ -44,7 +44,7 @@ use Rattle.msb_files.proofs.ReplaySteps.{
 }
 use Rattle.msb_files.proofs.replaying.+replaying.Goals as goal
 use Rattle.msb_files.proofs.replaying.+replaying.Goals.{
-  take_record-in-File+in_ok-recorded-in-File+in_ok-add-in-File,
+  take_record-in-File+in_ok-of_record-in-File+in_ok-add-in-File,
   take_record-in-Call+in_ok-take_runs-in-Call,
   take_runs-then-not-has_ended+in_ok-take_run,
   take_runs-else-not-has_ended,
@@ -55,7 +55,7 @@ take_run-take_record-requires t c =
     let table = c.args.table.now.finished in
     let run = c.args.run.now in (
       omega arith,
-      taken_defined table run c.in-Done.made.now c.args.journal.now c.requires.goes_on
+      taken_defined table run c.in-Done.record.now c.args.journal.now c.requires.goes_on
           c.in-Done.ensures c.requires.defined,
     )
 
@@ -71,10 +71,10 @@ take_run-returns t c =
     let journal = c.args.journal.now in
     let table = c.args.table.now.finished in
     let run = c.args.run.now in
-    let made = c.in-Done.made.now in
+    let made = c.in-Done.record.now in
     let on = c.requires.goes_on in
     let gives = c.in_ok-take_record-in-Done.ensures in
-    let entry : c.ended.result ≡ ended run made = search rules in
+    let entry : c.of_end.result ≡ ended run made = search rules in
     if_ok c.push.result c.push.ensures.ok
     (λ is. taken_gives table run made journal after on c.in-Done.ensures gives
     ∙ ap Some (sym (is ∙ (ap (λ e. e ∷ after) entry
@@ -83,7 +83,7 @@ take_run-returns t c =
 pub take_record-take_runs-requires : goal.take_record-take_runs-requires
 take_record-take_runs-requires t c =
     let one = replay (before c.args.run.now c.args.table.now.finished) in
-    let segments = c.args.made.now.segments in
+    let segments = c.args.record.now.segments in
     let n = c.loop-number.number in
     let same : c.as_slice-segment-items.result.now ≡ segments = c.as_slice-segment-items.ensures
     ∙ ap (λ m. m.segments) c.get.ensures in
@@ -101,19 +101,19 @@ pub take_record-loop-number-preserved : goal.take_record-loop-number-preserved
 take_record-loop-number-preserved t c =
     let run = c.args.run.now in
     let one = replay (before run c.args.table.now.finished) in
-    let segments = c.args.made.now.segments in
+    let segments = c.args.record.now.segments in
     let n = c.loop-number.number in
     let same : c.as_slice-segment-items.result.now ≡ segments = c.as_slice-segment-items.ensures
     ∙ ap (λ m. m.segments) c.get.ensures in
     let within = subst (λ s. n < length s) same c.loop-number-test.true in
     let at = c.segment-item.is ∙ ap (λ s. get_or s n c.segment-item.result) same in
     elim c.match-segment.branch [
-      | take_record-in-File+in_ok-recorded-in-File+in_ok-add-in-File w ↦
+      | take_record-in-File+in_ok-of_record-in-File+in_ok-add-in-File w ↦
           ap (left one run (n + 1) segments) (w.journal-is ∙ (w.in_ok-add-in-File.ensures.ok
           ∙ ap (add c.loop-number.journal)
-          (recorded_is c.args.made.now run n c.segment-item.result w.in-File.field-0
-          w.in_ok-recorded-in-File.field-0 within at w.in-File.is
-          w.in_ok-recorded-in-File.ensures)))
+          (recorded_is c.args.record.now run n c.segment-item.result w.in-File.field-0
+          w.in_ok-of_record-in-File.field-0 within at w.in-File.is
+          w.in_ok-of_record-in-File.ensures)))
           ∙ (act_step one run segments n c.segment-item.result within at w.in-File.field-0
           c.loop-number.journal w.in-File.is ∙ c.loop-number.invariant)
       | take_record-in-Call+in_ok-take_runs-in-Call w ↦

@@ -12,7 +12,7 @@ returns-in-Err-Writing g c =
     let within = rw c.in-Err-Writing.field-0-is at c.in-Err-Writing.ensures.place in
     let done = rw c.in-Err-Writing.field-0-is at c.in-Err-Writing.ensures.part in
     let rose = rw c.in-Err-Writing.field-0-is at c.in-Err-Writing.ensures.cause in
-    failed_ends o _ _ _ _ (completion_of o.status c.if-outcome-gt1.false c.requires)
+    failed_ends o _ _ (completion_of o.status c.if-outcome-gt1.false c.requires)
     c.print_write_fault.result place act
     (slice_get-get_or o.commit place act within
     ∙ ap (λ (list : List Act). Some (get_or list place act)) (sym c.as_slice.ensures)

@@ -16,40 +16,40 @@ outcome_on-outcome-requires-clause-status g c κs within =
 
 pub returns-in-Ended-clause-answer : goal.returns-in-Ended-clause-answer
 returns-in-Ended-clause-answer g c =
-    is_answered g.T.Tools.answer _ _ _ _ c.in-Ended.status
-    (c.in-Ended.ensures.prepared g.T.Tools.answer) refl
+    is_answered g.T.Tools.answer _ _ _ c.in-Ended.status
+    (c.in-Ended.ensures.prepared g.T.Tools.answer)
 
 pub returns-in-Trial-clause-answer : goal.returns-in-Trial-clause-answer
 returns-in-Trial-clause-answer g c =
-    is_answered g.T.Tools.answer _ _ _ _ c.end_trial.result
+    is_answered g.T.Tools.answer _ _ _ c.end_trial.result
     (trial_answers g.T.Tools.answer c.in-Trial.options c.in-Trial.ensures.prepared c.trial_on.result
-    c.trial_on.ensures c.end_trial.result c.end_trial.ensures) refl
+    c.trial_on.ensures c.end_trial.result c.end_trial.ensures)
 
 pub returns-in-Ready-clause-answer : goal.returns-in-Ready-clause-answer
 returns-in-Ready-clause-answer g c =
-    is_answered g.T.Tools.answer _ _ _ _ c.end.result
+    is_answered g.T.Tools.answer _ _ _ c.end.result
     (ready_answers g.T.Tools.answer c.in-Ready.options c.in-Ready.work c.in-Ready.ensures.prepared
     c.outcome_on-outcome.result c.outcome_on-outcome.ensures.outcome c.end.result c.end.ensures)
-    refl
 
 pub returns-in-Ended-clause-nodes : goal.returns-in-Ended-clause-nodes
 returns-in-Ended-clause-nodes g c = λ given build.
-    inr (undone_unmade g.T.Tools.answer _ _ given build _ _ _ c.in-Ended.status refl
+    inr (undone_unmade g.T.Tools.answer _ _ given build _ _ c.in-Ended.status refl
     c.in-Ended.ensures.undone)
 
 pub returns-in-Trial-clause-nodes : goal.returns-in-Trial-clause-nodes
 returns-in-Trial-clause-nodes g c = λ given build.
     let prepared = c.in-Trial.ensures.prepared in
     absurd (no_trial_built (map string_bytes c.args.words.now)
-    (g.S.Store.tree c.args.store.now) given build c.in-Trial.options prepared.asked prepared.trial)
+    (g.S.Store.seen c.args.store.now).tree given build c.in-Trial.options prepared.asked
+    prepared.trial)
 
 pub returns-in-Ready-clause-nodes : goal.returns-in-Ready-clause-nodes
 returns-in-Ready-clause-nodes g c = λ given build.
     let ready = c.in-Ready.ensures.prepared in
     made_on_nodes g.T.Tools.answer _ _ given build c.in-Ready.options ready.files c.in-Ready.work
-    ready.asked ready.loaded ready.is _ _ _ c.end.result c.outcome_on-outcome.result
+    ready.asked ready.loaded ready.is _ _ c.end.result c.outcome_on-outcome.result
     c.outcome_on-outcome.ensures.nodes
-    (ended_since c.in-Ready.options c.in-Ready.work ready c.outcome_on-outcome.result _ _ _ _
+    (ended_since c.in-Ready.options c.in-Ready.work ready c.outcome_on-outcome.result _ _
     c.end.result c.end.ensures)
 
 pub returns-in-Ready-clause-untouched : goal.returns-in-Ready-clause-untouched

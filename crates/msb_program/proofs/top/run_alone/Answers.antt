@@ -24,75 +24,78 @@ outcome_alone-outcome-requires g c =
 
 pub returns-in-Ended-clause-answer : goal.returns-in-Ended-clause-answer
 returns-in-Ended-clause-answer g c =
-    is_answered g.T.CountedTools.answer _ _ _ _ c.in-Ended.status
-    (c.in-Ended.ensures.prepared g.T.CountedTools.answer) refl
+    is_answered g.T.CountedTools.answer _ _ _ c.in-Ended.status
+    (c.in-Ended.ensures.prepared g.T.CountedTools.answer)
 
 pub returns-in-Trial-clause-answer : goal.returns-in-Trial-clause-answer
 returns-in-Trial-clause-answer g c =
-    is_answered g.T.CountedTools.answer _ _ _ _ c.end_trial.result
+    is_answered g.T.CountedTools.answer _ _ _ c.end_trial.result
     (trial_answers g.T.CountedTools.answer c.in-Trial.options c.in-Trial.ensures.prepared
-    c.trial_alone.result c.trial_alone.ensures c.end_trial.result c.end_trial.ensures) refl
+    c.trial_alone.result c.trial_alone.ensures c.end_trial.result c.end_trial.ensures)
 
 pub returns-in-Ready-clause-answer : goal.returns-in-Ready-clause-answer
 returns-in-Ready-clause-answer g c =
-    is_answered g.T.CountedTools.answer _ _ _ _ c.end.result
+    is_answered g.T.CountedTools.answer _ _ _ c.end.result
     (ready_answers g.T.CountedTools.answer c.in-Ready.options c.in-Ready.work
     c.in-Ready.ensures.prepared c.outcome_alone-outcome.result
-    c.outcome_alone-outcome.ensures.outcome c.end.result c.end.ensures) refl
+    c.outcome_alone-outcome.ensures.outcome c.end.result c.end.ensures)
 
 pub returns-in-Ended-clause-history : goal.returns-in-Ended-clause-history
 returns-in-Ended-clause-history g c = λ given build.
-    inr (undone_unmade g.T.CountedTools.answer _ _ given build _ _ _ c.in-Ended.status refl
+    inr (undone_unmade g.T.CountedTools.answer _ _ given build _ _ c.in-Ended.status refl
     c.in-Ended.ensures.undone)
 
 pub returns-in-Trial-clause-history : goal.returns-in-Trial-clause-history
 returns-in-Trial-clause-history g c = λ given build.
     let prepared = c.in-Trial.ensures.prepared in
     absurd (no_trial_built (map string_bytes c.args.words.now)
-    (g.S.Store.tree c.args.store.now) given build c.in-Trial.options prepared.asked prepared.trial)
+    (g.S.Store.seen c.args.store.now).tree given build c.in-Trial.options prepared.asked
+    prepared.trial)
 
 pub returns-in-Ready-clause-history : goal.returns-in-Ready-clause-history
 returns-in-Ready-clause-history g c = λ given build.
     let ready = c.in-Ready.ensures.prepared in
     made_history g.T.CountedTools.answer _ _ given build c.in-Ready.options ready.files
-    c.in-Ready.work ready.asked ready.loaded ready.is _ _ _ c.end.result
+    c.in-Ready.work ready.asked ready.loaded ready.is _ _ c.end.result
     c.outcome_alone-outcome.result _ _ c.outcome_alone-outcome.ensures.calls
-    (ended_since c.in-Ready.options c.in-Ready.work ready c.outcome_alone-outcome.result _ _ _ _
+    (ended_since c.in-Ready.options c.in-Ready.work ready c.outcome_alone-outcome.result _ _
     c.end.result c.end.ensures)
 
 pub returns-in-Ended-clause-calls : goal.returns-in-Ended-clause-calls
 returns-in-Ended-clause-calls g c = λ meant m done.
-    absurd (undone_incomplete _ _ _ _ c.in-Ended.status c.in-Ended.ensures.undone done)
+    absurd (undone_incomplete _ _ _ c.in-Ended.status c.in-Ended.ensures.undone done)
 
 pub returns-in-Trial-clause-calls : goal.returns-in-Trial-clause-calls
 returns-in-Trial-clause-calls g c = λ meant m done.
     let prepared = c.in-Trial.ensures.prepared in
     absurd (no_trial_meant g.T.CountedTools.answer (map string_bytes c.args.words.now)
-    (g.S.Store.tree c.args.store.now) meant m c.in-Trial.options prepared.asked prepared.trial)
+    (g.S.Store.seen c.args.store.now).tree meant m c.in-Trial.options prepared.asked prepared.trial)
 
 pub returns-in-Ready-clause-calls : goal.returns-in-Ready-clause-calls
 returns-in-Ready-clause-calls g c = λ meant m done.
     let ready = c.in-Ready.ensures.prepared in
     done_calls g.T.CountedTools.answer (map string_bytes c.args.words.now)
-    (g.S.Store.tree c.args.store.now) meant m c.in-Ready.options ready.files c.in-Ready.work
+    (g.S.Store.seen c.args.store.now).tree meant m c.in-Ready.options ready.files c.in-Ready.work
     c.outcome_alone-outcome.result (g.T.CountedTools.calls c.args.tools.now)
-    (g.T.CountedTools.calls c.outcome_alone-outcome.new.tools) _ _ _ _ c.end.result ready.asked
+    (g.T.CountedTools.calls c.outcome_alone-outcome.new.tools) _ _ c.end.result ready.asked
     ready.loaded ready.is c.outcome_alone-outcome.ensures.calls c.end.ensures done
 
 pub returns-in-Ended-clause-idle : goal.returns-in-Ended-clause-idle
 returns-in-Ended-clause-idle g c = λ clean m done.
-    absurd (undone_incomplete _ _ _ _ c.in-Ended.status c.in-Ended.ensures.undone done)
+    absurd (undone_incomplete _ _ _ c.in-Ended.status c.in-Ended.ensures.undone done)
 
 pub returns-in-Trial-clause-idle : goal.returns-in-Trial-clause-idle
 returns-in-Trial-clause-idle g c = λ clean m done.
     let prepared = c.in-Trial.ensures.prepared in
-    absurd (no_trial_built (map string_bytes c.args.words.now) (g.S.Store.tree c.args.store.now)
-    m.means.given m.means.build c.in-Trial.options prepared.asked prepared.trial)
+    absurd (no_trial_built (map string_bytes c.args.words.now)
+    (g.S.Store.seen c.args.store.now).tree m.means.given m.means.build c.in-Trial.options
+    prepared.asked prepared.trial)
 
 pub returns-in-Ready-clause-idle : goal.returns-in-Ready-clause-idle
 returns-in-Ready-clause-idle g c = λ clean m.
     calls_of_others g.T.CountedTools.answer (map string_bytes c.args.words.now)
-    (g.S.Store.tree c.args.store.now) clean m _ _ c.end.result (returns-in-Ready-clause-calls g c)
+    (g.S.Store.seen c.args.store.now).tree clean m _ _ c.end.result
+    (returns-in-Ready-clause-calls g c)
 
 pub returns-in-Ready-clause-uncalled : goal.returns-in-Ready-clause-uncalled
 returns-in-Ready-clause-uncalled g c = λ unasked.
