@@ -86,10 +86,17 @@ abbrev pub or_batch_cause : Result (List Bucket) BatchFault → Result (List Buc
 or_batch_cause (Ok buckets) = Ok buckets
 or_batch_cause (Err fault) = Err (cause_of fault)
 
--- The buckets of an element, and of an item element by its own type as well. All texts are read
--- first, so that one that has no reading comes ahead of any other fault; a fault of batching is
--- told at the element, also for a child's text.
+-- the buckets by texts, and of an item element by its own type as well; a fault of batching is one
+-- of the element, also for a child's text
+abbrev pub buckets_by : Scene → At → Option Name → List Expr → Result (List Bucket) EvalFault
+buckets_by scene e own texts = or_fault e (or_batch_cause (buckets_value scene texts own))
+
+-- The buckets of an element. All texts are read first, so that one that has no reading comes ahead
+-- of any other fault.
 abbrev pub element_buckets : Scene → List Text → At → Option Name
     → Result (List Bucket) EvalFault
-element_buckets scene ignored e own = and_then (texts_read ignored e)
-    (λ texts. or_fault e (or_batch_cause (buckets_value scene texts own)))
+element_buckets scene ignored e own = and_then (texts_read ignored e) (buckets_by scene e own)
+
+-- the buckets of an element by its own texts, without those of its children
+abbrev pub own_buckets : Scene → List Text → At → Result (List Bucket) EvalFault
+own_buckets scene ignored e = and_then (or_fault e (own_read ignored e)) (buckets_by scene e None)

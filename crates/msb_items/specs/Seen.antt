@@ -3,7 +3,7 @@ use Rattle.std.specs.Prelude.{List, option_copied}
 use Rattle.msb_laws.specs.Words.{Path, Text}
 use Rattle.msb_values.specs.declared.scope.Scope.{Scope}
 use Rattle.build_world.specs.Elements.{seen_element}
-use Rattle.msb_items.specs.declared.source.Source.{Source}
+use Rattle.msb_items.specs.declared.project_files.ProjectFiles.{ProjectFiles}
 use Rattle.msb_items.specs.declared.metadata.Kind.{Kind}
 use Rattle.msb_items.specs.declared.metadata.Kind.TheVariants.{Definition, Item, TargetItem}
 use Rattle.msb_items.specs.declared.metadata.WrittenMetadata as written
@@ -15,11 +15,12 @@ use Rattle.msb_items.specs.Metadata.{
   target_attributes,
 }
 
-abbrev pub definitions_in : {F : Type 0} → (F → List Path) → Source F → Scope → ElementContext
+abbrev pub definitions_in : {F : Type 0} → (F → List Path) → ProjectFiles F → Scope
+    → ElementContext
 definitions_in files source scope = definition_context (files source.files.now) source.project.now
     scope
 
-abbrev pub items_in : {F : Type 0} → (F → List Path) → Source F → Scope → ElementContext
+abbrev pub items_in : {F : Type 0} → (F → List Path) → ProjectFiles F → Scope → ElementContext
 items_in files source scope = item_context (files source.files.now) source.project.now scope
 
 abbrev pub metadata_of : written.WrittenMetadata → WrittenMetadata

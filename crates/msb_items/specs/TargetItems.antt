@@ -40,7 +40,7 @@ use Rattle.msb_items.specs.Truths.{truth_or}
 -- The metadata that are written on the element. Their texts see the bucket and no item, so that
 -- each item gets the same; they are read where there is an item that gets them.
 abbrev pub pairs_written : ElementContext → Name → At → Result Pairs EvalFault
-pairs_written p kind e = map_ok (λ made. made.meta)
+pairs_written p kind e = map_ok (λ item. item.meta)
     (with_all_metadata p kind (metadata_on target_attributes e) no_item)
 
 abbrev pub pairs_for : ElementContext → Name → At → List Item → Result Pairs EvalFault

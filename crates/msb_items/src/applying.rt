@@ -11,9 +11,9 @@ ghost use Rattle.msb_values.specs.Folded.{folded_bytes};
 ghost use Rattle.msb_values.specs.Pairs.{changed_at};
 ghost use Rattle.msb_items.specs.TargetGroups.{all_applied};
 
+use crate::item_names::keep_unless;
 use crate::pairs::put_all;
 use crate::sets::set_of;
-use crate::unnamed::keep_unless;
 use msb_values::{
     Change, Folded, Item, List, Lists, Name, NoMemory, Pairs, Scope, SharedItems, Text,
 };
@@ -59,17 +59,17 @@ fn remove_items(
 {
     let shared = lists.replace(kind, SharedItems::none())?;
     let items = shared.into_list(alloc)?;
-    let kept = without_named(alloc, items.into_vec(), texts)?;
+    let kept = items_except(alloc, items.into_vec(), texts)?;
     let kept = SharedItems::of(alloc, List::from(kept))?;
     lists.replace(kind, kept)?;
     Ok(())
 }
 
 /// The items whose identities equal none of the texts without case.
-fn without_named(alloc: Global, items: Vec<Item>, texts: &[Text]) -> Result<Vec<Item>, NoMemory>
+fn items_except(alloc: Global, items: Vec<Item>, texts: &[Text]) -> Result<Vec<Item>, NoMemory>
     ensures { IfOk result (λ kept. kept.items ≡ without_named texts.now items.items) }
 {
-    let named = set_of(alloc, all_folded(alloc, texts)?)?;
+    let named = set_of(alloc, fold_all(alloc, texts)?)?;
     let mut kept = Vec::with_capacity(alloc, items.len())?;
     for item in items {
         let ident = Folded::of(alloc, item.ident.as_str())?;
@@ -78,7 +78,7 @@ fn without_named(alloc: Global, items: Vec<Item>, texts: &[Text]) -> Result<Vec<
     Ok(kept)
 }
 
-fn all_folded(alloc: Global, texts: &[Text]) -> Result<Vec<Folded>, NoMemory>
+fn fold_all(alloc: Global, texts: &[Text]) -> Result<Vec<Folded>, NoMemory>
     ensures { IfOk result (λ folded. folded.items ≡ map folded_bytes texts.now) }
 {
     let mut folded = Vec::with_capacity(alloc, texts.len())?;

@@ -12,12 +12,14 @@ ghost use Rattle.build_world.specs.Elements.{children_of, or_fault, seen_element
 ghost use Rattle.msb_items.specs.Answers.{GivesCauseAs};
 ghost use Rattle.msb_items.specs.Batched.{
   attribute_read,
+  buckets_by,
   child_read,
   condition_read,
   element_buckets,
   inner_read,
   joined_ok,
   or_batch_cause,
+  own_buckets,
   own_read,
   text_read,
   texts_read,
@@ -55,7 +57,38 @@ pub fn element_buckets(
         (seen_element element.now) (option_copied own.entry)) }
 {
     let read = read_texts(alloc, ignored, element)?;
-    match read_buckets(alloc, lens, &read, own) {
+    buckets_by(alloc, lens, element, own, &read)
+}
+
+/// The buckets of an element in a target by its own texts alone, without those of its children, as
+/// the lens sees it. (MSBuild batching.)
+pub fn own_buckets(
+    alloc: Global,
+    lens: &Lens<'_>,
+    ignored: &[&str],
+    element: &PlacedElement<'_>,
+) -> Result<List<Bucket>, EvalFault>
+    ensures { GivesFault (λ buckets. buckets) result
+        (own_buckets (scene_of lens.now) (map (λ name. name.now) ignored.now)
+        (seen_element element.now)) }
+{
+    let read = read_own(alloc, ignored, element)?;
+    buckets_by(alloc, lens, element, None, &read)
+}
+
+/// The buckets of an element by these texts of it.
+fn buckets_by(
+    alloc: Global,
+    lens: &Lens<'_>,
+    element: &PlacedElement<'_>,
+    own: Option<&Name>,
+    read: &[ReadText],
+) -> Result<List<Bucket>, EvalFault>
+    ensures { GivesFault (λ buckets. buckets) result
+        (buckets_by (scene_of lens.now) (seen_element element.now) (option_copied own.entry)
+        (exprs_in read.now)) }
+{
+    match read_buckets(alloc, lens, read, own) {
         Ok(buckets) => Ok(buckets),
         Err(cause) => Err(element.fault(alloc, cause)),
     }
@@ -72,13 +105,8 @@ fn read_buckets(
         (or_batch_cause
         (buckets_value (scene_of lens.now) (exprs_in read.now) (option_copied own.entry))) }
 {
-    let Ok(texts) = expressions(alloc, read) else {
-        return Err(Cause::Memory);
-    };
-    match buckets(alloc, lens, &texts, own) {
-        Ok(buckets) => Ok(buckets),
-        Err(fault) => Err(Cause::from(fault)),
-    }
+    let texts = expressions(alloc, read)?;
+    Ok(buckets(alloc, lens, &texts, own)?)
 }
 
 fn expressions(alloc: Global, read: &[ReadText]) -> Result<Vec<&Expr>, NoMemory>
@@ -260,10 +288,8 @@ fn push_written_condition(
     ensures { GivesCauseAs (λ _. exprs_in read.new.items) result
         (map_ok (λ more. exprs_in read.old.items ++ more) (condition_read (Some written.now))) }
 {
-    match msb_condition::parse(alloc, written) {
-        Ok(condition) => push(read, ReadText::Condition(condition)),
-        Err(fault) => Err(Cause::from(fault)),
-    }
+    let condition = msb_condition::parse(alloc, written)?;
+    push(read, ReadText::Condition(condition))
 }
 
 fn push_text(alloc: Global, read: &mut Vec<ReadText>, written: &str) -> Result<(), Cause>
@@ -280,8 +306,5 @@ fn push(read: &mut Vec<ReadText>, text: ReadText) -> Result<(), Cause>
     ensures { GivesCauseAs (λ _. exprs_in read.new.items) result
         (Ok (exprs_in read.old.items ++ exprs_of text)) }
 {
-    match read.push(text) {
-        Ok(()) => Ok(()),
-        Err(_) => Err(Cause::Memory),
-    }
+    Ok(read.push(text)?)
 }

@@ -18,16 +18,15 @@ ghost use Rattle.element_texts.specs.Seen.{context_of};
 
 use crate::entries::{all_items, items_by};
 use crate::files::ListedFiles;
-use crate::item_names::names_of;
+use crate::item_names::{keep_unnamed, names_of};
 use crate::metadata::{Kind, metadata_on};
-use crate::unnamed::unnamed;
 use crate::updates::{replacements, with_metadata};
 use build_world::{EvalFault, PlacedElement};
 use element_texts::ElementContext;
 use file_store::File;
 use msb_glob::{ItemNames, SortedPaths};
 use msb_paths::Present;
-use msb_values::{Item, Name, NoMemory, Scope};
+use msb_values::{Item, Name, Scope};
 use std::alloc::Global;
 
 /// The items that an Include adds, less those that Exclude names, with the metadata that are
@@ -47,7 +46,7 @@ pub(crate) fn new_items<F: Present>(
 {
     let items = items_at(alloc, context, paths, element, include)?;
     let exclude = element.element.attribute("Exclude");
-    let items = less_excluded(alloc, context, element, exclude, items)?;
+    let items = apply_exclude(alloc, context, element, exclude, items)?;
     let written = metadata_on(alloc, Kind::Item, element)?;
     with_metadata(alloc, context, kind, &written, items)
 }
@@ -88,7 +87,7 @@ pub(crate) fn target_items_at<F: ListedFiles>(
     }
 }
 
-pub(crate) fn less_excluded<F: Present>(
+pub(crate) fn apply_exclude<F: Present>(
     alloc: Global,
     context: &ElementContext<'_, F>,
     element: &PlacedElement<'_>,
@@ -101,12 +100,12 @@ pub(crate) fn less_excluded<F: Present>(
 {
     match exclude {
         None => Ok(items),
-        Some(exclude) => excluded(alloc, context, element, exclude, items),
+        Some(exclude) => remove_excluded(alloc, context, element, exclude, items),
     }
 }
 
 /// The items that the entries of an Exclude do not name.
-fn excluded<F: Present>(
+fn remove_excluded<F: Present>(
     alloc: Global,
     context: &ElementContext<'_, F>,
     element: &PlacedElement<'_>,
@@ -118,10 +117,7 @@ fn excluded<F: Present>(
         (names_at (context_of F.files context.now) (seen_element element.now) exclude.now)) }
 {
     let names = names_at(alloc, context, element, exclude)?;
-    match unnamed(alloc, context.project, &names, items) {
-        Ok(kept) => Ok(kept),
-        Err(_) => Err(EvalFault::from(NoMemory)),
-    }
+    Ok(keep_unnamed(alloc, context.project, &names, items)?)
 }
 
 /// What the entries of an attribute name.
@@ -158,9 +154,7 @@ pub(crate) fn update_replacements<F: Present>(
         (is_named context.now.project.now names) (list_of context.now.scope.now kind.now))) }
 {
     let names = names_at(alloc, context, element, update)?;
-    let Ok(written) = metadata_on(alloc, Kind::Item, element) else {
-        return Err(EvalFault::from(NoMemory));
-    };
+    let written = metadata_on(alloc, Kind::Item, element)?;
     let items = list_of(context.scope, kind);
     replacements(alloc, context, kind, &names, &written, items)
 }

@@ -17,7 +17,7 @@ ghost use Rattle.element_texts.specs.Contexts.{after_each};
 ghost use Rattle.msb_items.specs.Seen.{definitions_in, metadata_of};
 
 use crate::metadata::{Kind, WrittenMetadata, key_of, metadata_on};
-use crate::source::{Source, project_path};
+use crate::project_files::{ProjectFiles, project_path};
 use build_world::{EvalFault, LaidOut, Placed, PlacedElement};
 use element_texts::ElementContext;
 use file_store::Tree;
@@ -39,7 +39,7 @@ pub fn definition_pass(
         (map seen_placed laid.now.elements.items)) }
 {
     let elements = laid.elements.as_slice();
-    let source = Source {
+    let source = ProjectFiles {
         files: tree,
         project: project_path(elements),
     };
@@ -48,7 +48,7 @@ pub fn definition_pass(
 
 fn define_all<F: Present>(
     alloc: Global,
-    source: &Source<'_, F>,
+    source: &ProjectFiles<'_, F>,
     elements: &[Placed],
     scope: &mut Scope,
 ) -> Result<(), EvalFault>
@@ -65,7 +65,7 @@ fn define_all<F: Present>(
 /// What an element of a project defines: a group's definitions, and nothing else.
 fn define_by<F: Present>(
     alloc: Global,
-    source: &Source<'_, F>,
+    source: &ProjectFiles<'_, F>,
     element: &PlacedElement<'_>,
     scope: &mut Scope,
 ) -> Result<(), EvalFault>
@@ -81,7 +81,7 @@ fn define_by<F: Present>(
 /// The definitions of an ItemDefinitionGroup. (ItemDefinitionGroup element.)
 fn define_group<F: Present>(
     alloc: Global,
-    source: &Source<'_, F>,
+    source: &ProjectFiles<'_, F>,
     element: &PlacedElement<'_>,
     scope: &mut Scope,
 ) -> Result<(), EvalFault>
@@ -99,7 +99,7 @@ fn define_group<F: Present>(
 
 fn define_children<F: Present>(
     alloc: Global,
-    source: &Source<'_, F>,
+    source: &ProjectFiles<'_, F>,
     element: &PlacedElement<'_>,
     scope: &mut Scope,
 ) -> Result<(), EvalFault>
@@ -116,7 +116,7 @@ fn define_children<F: Present>(
 /// A definition element. (Item definitions.)
 fn define<F: Present>(
     alloc: Global,
-    source: &Source<'_, F>,
+    source: &ProjectFiles<'_, F>,
     element: &PlacedElement<'_>,
     scope: &mut Scope,
 ) -> Result<(), EvalFault>
@@ -133,7 +133,7 @@ fn define<F: Present>(
 
 fn define_kind<F: Present>(
     alloc: Global,
-    source: &Source<'_, F>,
+    source: &ProjectFiles<'_, F>,
     element: &PlacedElement<'_>,
     scope: &mut Scope,
 ) -> Result<(), EvalFault>
@@ -156,7 +156,7 @@ fn define_kind<F: Present>(
 /// Sets the defaults of a type, each of which sees those ahead of it.
 fn set_defaults<F: Present>(
     alloc: Global,
-    source: &Source<'_, F>,
+    source: &ProjectFiles<'_, F>,
     kind: &Name,
     nothing: &Item,
     written: &[WrittenMetadata<'_>],
@@ -175,7 +175,7 @@ fn set_defaults<F: Present>(
 
 fn set_default_written<'k, F: Present>(
     alloc: Global,
-    source: &Source<'_, F>,
+    source: &ProjectFiles<'_, F>,
     kind: &'k Name,
     nothing: &'k Item,
     metadata: &WrittenMetadata<'_>,

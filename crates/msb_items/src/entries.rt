@@ -1,10 +1,10 @@
 ghost use Rattle.std.specs.Prelude.{◌≡◌, [], ◌∷◌, ◌++◌, map, IfOk, OnOk};
 ghost use Rattle.std.specs.List.{list_any};
 ghost use Rattle.msb_laws.specs.Results.{map_ok};
-ghost use Rattle.msb_values.specs.Caused.{GivesCause, UnlessMemory};
+ghost use Rattle.msb_values.specs.Caused.{GivesCause};
 ghost use Rattle.msb_items.specs.Answers.{GivesCauseAs};
 ghost use Rattle.msb_items.specs.Items.{all_items, item_of, items_of, matched};
-ghost use Rattle.msb_items.specs.Patterns.{is_pattern_entry, pattern_cause, pattern_of};
+ghost use Rattle.msb_items.specs.Patterns.{is_pattern_entry, pattern_of};
 
 use crate::files::ListedFiles;
 use msb_expand::{Entry, folder_of};
@@ -26,20 +26,9 @@ pub(crate) fn pattern_of(alloc: Global, project: &str, entry: &Entry) -> Result<
     let text = entry.item.ident.as_str();
     match Pattern::parse(alloc, folder_of(project), text) {
         Ok(pattern) => Ok(pattern),
-        Err(fault) => Err(pattern_cause(alloc, text, fault)),
-    }
-}
-
-fn pattern_cause(alloc: Global, text: &str, fault: GlobFault) -> Cause
-    ensures { UnlessMemory result (result ≡ pattern_cause text.now fault) }
-{
-    match fault {
-        GlobFault::StarsInSegment => Cause::StarsInSegment,
-        GlobFault::Path(_) => match Text::of(alloc, text) {
-            Ok(text) => Cause::BadPath(text),
-            Err(_) => Cause::Memory,
-        },
-        GlobFault::Memory => Cause::Memory,
+        Err(GlobFault::StarsInSegment) => Err(Cause::StarsInSegment),
+        Err(GlobFault::Path(_)) => Err(Cause::BadPath(Text::of(alloc, text)?)),
+        Err(GlobFault::Memory) => Err(Cause::Memory),
     }
 }
 
@@ -73,10 +62,7 @@ pub(crate) fn items_by<F: ListedFiles>(
     if has_pattern(entries) {
         return listed_items(alloc, files, project, entries);
     }
-    match copies_of(alloc, entries) {
-        Ok(items) => Ok(items),
-        Err(_) => Err(Cause::Memory),
-    }
+    Ok(copies_of(alloc, entries)?)
 }
 
 fn listed_items<F: ListedFiles>(
@@ -88,9 +74,7 @@ fn listed_items<F: ListedFiles>(
     ensures { GivesCauseAs (λ items. items.items) result
         (all_items (F.files files.now) project.now entries.now) }
 {
-    let Ok(paths) = files.paths(alloc) else {
-        return Err(Cause::Memory);
-    };
+    let paths = files.paths(alloc)?;
     let paths = SortedPaths::of_texts(paths.as_slice());
     all_items(alloc, &paths, project, entries)
 }
@@ -141,10 +125,7 @@ fn push_items_of<P: HasPath>(
     if is_pattern_entry(entry) {
         return push_pattern(alloc, items, paths, project, entry);
     }
-    match push_copy(items, &entry.item) {
-        Ok(()) => Ok(()),
-        Err(_) => Err(Cause::Memory),
-    }
+    Ok(push_copy(items, &entry.item)?)
 }
 
 fn push_pattern<P: HasPath>(
@@ -159,10 +140,7 @@ fn push_pattern<P: HasPath>(
         (map_ok (matched paths.now) (pattern_of project.now entry.now))) }
 {
     let pattern = pattern_of(alloc, project, entry)?;
-    match push_matches(alloc, items, paths, &pattern) {
-        Ok(()) => Ok(()),
-        Err(_) => Err(Cause::Memory),
-    }
+    Ok(push_matches(alloc, items, paths, &pattern)?)
 }
 
 fn push_copy(items: &mut Vec<Item>, item: &Item) -> Result<(), NoMemory>

@@ -1,8 +1,8 @@
-ghost use Rattle.std.specs.Prelude.{◌≡◌, [], ◌∷◌, ◌++◌, filter, IfOk, OnOk};
-ghost use Rattle.msb_laws.specs.Results.{map_ok, all_ok};
+ghost use Rattle.std.specs.Prelude.{◌≡◌, [], ◌∷◌, ◌++◌, IfOk, OnOk};
+ghost use Rattle.msb_laws.specs.Results.{map_ok};
 ghost use Rattle.msb_glob.specs.FoldedNames.{folded_names, seen_names, with_idents};
 ghost use Rattle.msb_items.specs.Answers.{GivesCauseAs};
-ghost use Rattle.msb_items.specs.FoldedNames.{is_named_by};
+ghost use Rattle.msb_items.specs.FoldedNames.{is_named_by, item_unless, unnamed_by};
 ghost use Rattle.msb_items.specs.ItemNames.{idents_of, names_of, patterns_of};
 ghost use Rattle.msb_items.specs.Patterns.{is_pattern_entry, pattern_of};
 
@@ -20,10 +20,8 @@ pub(crate) fn names_of(alloc: Global, project: &str, entries: &[Entry]) -> Resul
     let mut patterns = List::new(alloc);
     push_patterns(alloc, &mut patterns, project, entries)?;
     let mut names = ItemNames::of(alloc, patterns);
-    match insert_idents(alloc, &mut names, entries) {
-        Ok(()) => Ok(names),
-        Err(_) => Err(Cause::Memory),
-    }
+    insert_idents(alloc, &mut names, entries)?;
+    Ok(names)
 }
 
 /// Whether an entry is the item's identity, or a pattern among them matches it.
@@ -37,6 +35,34 @@ pub(crate) fn is_named(
 {
     let ident = unescape(alloc, item.ident.as_str())?;
     names.names(alloc, folder_of(project), ident.as_str())
+}
+
+/// The items that are not named.
+pub(crate) fn keep_unnamed(
+    alloc: Global,
+    project: &str,
+    names: &ItemNames,
+    items: Vec<Item>,
+) -> Result<Vec<Item>, NoMemory>
+    ensures { IfOk result (λ kept. kept.items
+        ≡ unnamed_by project.now (seen_names names.now) items.items) }
+{
+    let mut kept = Vec::new(alloc);
+    for item in items {
+        let named = is_named(alloc, project, names, &item)?;
+        keep_unless(&mut kept, named, item)?;
+    }
+    Ok(kept)
+}
+
+/// Puts an item behind others, unless it is named.
+pub(crate) fn keep_unless(kept: &mut Vec<Item>, named: bool, item: Item) -> Result<(), NoMemory>
+    ensures { OnOk result (kept.new.items ≡ kept.old.items ++ item_unless named item) }
+{
+    if named {
+        return Ok(());
+    }
+    Ok(kept.push(item)?)
 }
 
 fn insert_idents(alloc: Global, names: &mut ItemNames, entries: &[Entry]) -> Result<(), NoMemory>
@@ -78,8 +104,5 @@ fn push_pattern(
         return Ok(());
     }
     let pattern = pattern_of(alloc, project, entry)?;
-    match patterns.push(pattern) {
-        Ok(()) => Ok(()),
-        Err(_) => Err(Cause::Memory),
-    }
+    Ok(patterns.push(pattern)?)
 }

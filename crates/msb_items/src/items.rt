@@ -23,9 +23,9 @@ ghost use Rattle.msb_items.specs.Replaced.{or_item, replaced};
 ghost use Rattle.msb_items.specs.Seen.{items_in};
 
 use crate::changes::{names_at, new_items, update_replacements};
+use crate::item_names::keep_unnamed;
 use crate::metadata::key_of;
-use crate::source::{ItemSource, Source, project_path};
-use crate::unnamed::unnamed;
+use crate::project_files::{ItemFiles, ProjectFiles, project_path};
 use build_world::{EvalFault, LaidOut, Placed, PlacedElement};
 use element_texts::ElementContext;
 use file_store::Tree;
@@ -47,8 +47,8 @@ pub fn item_pass(
         (all_itemed (paths_of tree.now.files) scope.old (map seen_placed laid.now.elements.items)) }
 {
     let elements = laid.elements.as_slice();
-    let source = ItemSource {
-        source: Source {
+    let source = ItemFiles {
+        source: ProjectFiles {
             files: tree,
             project: project_path(elements),
         },
@@ -59,7 +59,7 @@ pub fn item_pass(
 
 fn take_all<F: Present>(
     alloc: Global,
-    source: &ItemSource<'_, F>,
+    source: &ItemFiles<'_, F>,
     elements: &[Placed],
     scope: &mut Scope,
 ) -> Result<(), EvalFault>
@@ -76,7 +76,7 @@ fn take_all<F: Present>(
 /// What an element of a project does to the items: a group's elements, and nothing else.
 fn take<F: Present>(
     alloc: Global,
-    source: &ItemSource<'_, F>,
+    source: &ItemFiles<'_, F>,
     element: &PlacedElement<'_>,
     scope: &mut Scope,
 ) -> Result<(), EvalFault>
@@ -92,7 +92,7 @@ fn take<F: Present>(
 /// The elements of an ItemGroup. (ItemGroup element.)
 fn take_group<F: Present>(
     alloc: Global,
-    source: &ItemSource<'_, F>,
+    source: &ItemFiles<'_, F>,
     element: &PlacedElement<'_>,
     scope: &mut Scope,
 ) -> Result<(), EvalFault>
@@ -108,7 +108,7 @@ fn take_group<F: Present>(
 /// Whether the Condition of an element holds.
 fn holds<F: Present>(
     alloc: Global,
-    source: &Source<'_, F>,
+    source: &ProjectFiles<'_, F>,
     element: &PlacedElement<'_>,
     scope: &Scope,
 ) -> Result<bool, EvalFault>
@@ -120,7 +120,7 @@ fn holds<F: Present>(
 
 fn take_children<F: Present>(
     alloc: Global,
-    source: &ItemSource<'_, F>,
+    source: &ItemFiles<'_, F>,
     element: &PlacedElement<'_>,
     scope: &mut Scope,
 ) -> Result<(), EvalFault>
@@ -137,7 +137,7 @@ fn take_children<F: Present>(
 /// An item element. (Item element.)
 fn take_item<F: Present>(
     alloc: Global,
-    source: &ItemSource<'_, F>,
+    source: &ItemFiles<'_, F>,
     element: &PlacedElement<'_>,
     scope: &mut Scope,
 ) -> Result<(), EvalFault>
@@ -152,7 +152,7 @@ fn take_item<F: Present>(
 
 fn take_kind<F: Present>(
     alloc: Global,
-    source: &ItemSource<'_, F>,
+    source: &ItemFiles<'_, F>,
     element: &PlacedElement<'_>,
     scope: &mut Scope,
 ) -> Result<(), EvalFault>
@@ -167,7 +167,7 @@ fn take_kind<F: Present>(
 
 fn change<F: Present>(
     alloc: Global,
-    source: &ItemSource<'_, F>,
+    source: &ItemFiles<'_, F>,
     element: &PlacedElement<'_>,
     kind: &Name,
     scope: &mut Scope,
@@ -190,7 +190,7 @@ fn change<F: Present>(
 
 fn include<F: Present>(
     alloc: Global,
-    source: &ItemSource<'_, F>,
+    source: &ItemFiles<'_, F>,
     element: &PlacedElement<'_>,
     kind: &Name,
     written: &str,
@@ -208,7 +208,7 @@ fn include<F: Present>(
 
 fn remove<F: Present>(
     alloc: Global,
-    source: &Source<'_, F>,
+    source: &ProjectFiles<'_, F>,
     element: &PlacedElement<'_>,
     kind: &Name,
     written: &str,
@@ -220,10 +220,7 @@ fn remove<F: Present>(
 {
     let context = ElementContext::of_items(source.files, source.project, scope);
     let names = names_at(alloc, &context, element, written)?;
-    match remove_named(alloc, source.project, &names, kind, scope) {
-        Ok(()) => Ok(()),
-        Err(_) => Err(EvalFault::from(NoMemory)),
-    }
+    Ok(remove_named(alloc, source.project, &names, kind, scope)?)
 }
 
 /// Takes the named items away from those of their type; the others move.
@@ -242,13 +239,13 @@ fn remove_named(
         .items
         .replace(kind, SharedItems::none())?
         .into_list(alloc)?;
-    let kept = unnamed(alloc, project, names, list.into_vec())?;
+    let kept = keep_unnamed(alloc, project, names, list.into_vec())?;
     put_list(alloc, scope, kind, List::from(kept))
 }
 
 fn update<F: Present>(
     alloc: Global,
-    source: &Source<'_, F>,
+    source: &ProjectFiles<'_, F>,
     element: &PlacedElement<'_>,
     kind: &Name,
     written: &str,
@@ -260,10 +257,7 @@ fn update<F: Present>(
 {
     let context = ElementContext::of_items(source.files, source.project, scope);
     let replacements = update_replacements(alloc, &context, kind, element, written)?;
-    match replace_in(alloc, scope, kind, replacements) {
-        Ok(()) => Ok(()),
-        Err(_) => Err(EvalFault::from(NoMemory)),
-    }
+    Ok(replace_in(alloc, scope, kind, replacements)?)
 }
 
 /// Puts what replaces items of a type in their places; the others stay where they are.

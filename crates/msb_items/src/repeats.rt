@@ -6,7 +6,7 @@ ghost use Rattle.msb_items.specs.RepeatKeys.{HasKeys, item_if, key_of, same_key}
 ghost use Rattle.msb_items.specs.declared.repeats.ItemKey.{ItemKey as Key};
 
 use crate::sets::set_of;
-use msb_values::{Copied, Folded, Item, List, NoMemory, Pairs, overlaid};
+use msb_values::{Copied, Folded, Item, List, NoMemory, Pairs, with_defaults};
 use std::alloc::Global;
 use std::collections::HashSet;
 use std::marker::Model;
@@ -33,7 +33,7 @@ impl ItemKey {
     {
         Ok(ItemKey {
             ident: Folded::of(alloc, item.ident.as_str())?,
-            meta: overlaid(defaults, &item.meta)?,
+            meta: with_defaults(defaults, &item.meta)?,
         })
     }
 }
@@ -97,7 +97,7 @@ impl KeyedItems {
         ensures { OnOk result (self.new ≡ self.old ++ more) }
     {
         let (items, keys) = mem::replace(self, KeyedItems::new(alloc)).parts();
-        *self = appended(alloc, items, keys, more.into_vec())?;
+        *self = append_all(alloc, items, keys, more.into_vec())?;
         Ok(())
     }
 
@@ -115,12 +115,12 @@ impl Copied for KeyedItems {
     fn copy(&self) -> Result<KeyedItems, NoMemory> {
         let items = self.items.copy()?.into_vec();
         let alloc = *items.allocator();
-        appended(alloc, List::new(alloc), HashSet::new(alloc), items)
+        append_all(alloc, List::new(alloc), HashSet::new(alloc), items)
     }
 }
 
 // Items and their keys, and behind them others with theirs.
-fn appended(
+fn append_all(
     alloc: Global,
     items: List<Item>,
     keys: HashSet<ItemKey>,

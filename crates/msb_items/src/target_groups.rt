@@ -22,7 +22,7 @@ use crate::batched::element_buckets;
 use crate::files::ListedFiles;
 use crate::group::Group;
 use crate::metadata::key_of;
-use crate::source::Source;
+use crate::project_files::ProjectFiles;
 use crate::target_items::item_change;
 use crate::target_properties::property_change;
 use build_world::{EvalFault, PlacedElement};
@@ -75,7 +75,7 @@ pub fn change_by_group(
         (seen_element group.now)) }
     ensures changed { IfOk result (λ changes. scope.new ≡ all_applied changes scope.old) }
 {
-    let source = Source {
+    let source = ProjectFiles {
         files: view,
         project,
     };
@@ -84,7 +84,7 @@ pub fn change_by_group(
 
 fn change_by<F: ListedFiles>(
     alloc: Global,
-    source: &Source<'_, F>,
+    source: &ProjectFiles<'_, F>,
     group: &PlacedElement<'_>,
     scope: &mut Scope,
 ) -> Result<List<Change>, EvalFault>
@@ -101,7 +101,7 @@ fn change_by<F: ListedFiles>(
 
 fn change_by_each<F: ListedFiles>(
     alloc: Global,
-    source: &Source<'_, F>,
+    source: &ProjectFiles<'_, F>,
     group: &PlacedElement<'_>,
     scope: &mut Scope,
 ) -> Result<List<Change>, EvalFault>
@@ -120,7 +120,7 @@ fn change_by_each<F: ListedFiles>(
 
 fn change_by_element<F: ListedFiles>(
     alloc: Global,
-    source: &Source<'_, F>,
+    source: &ProjectFiles<'_, F>,
     group: Group,
     element: &PlacedElement<'_>,
     scope: &mut Scope,

@@ -8,13 +8,11 @@ ghost use Rattle.std.specs.Prelude.{
   Some,
   None,
   IfOk,
-  OnOk,
   option_copied,
   option_to_list,
 };
 ghost use Rattle.msb_laws.specs.Results.{and_then, map_ok};
 ghost use Rattle.msb_values.specs.Caused.{GivesCause};
-ghost use Rattle.msb_values.specs.Changes.{with_metadata};
 ghost use Rattle.msb_values.specs.Escapes.{unescaped};
 ghost use Rattle.msb_values.specs.declared.change.Change.TheVariants.{AddItems, RemoveItems};
 ghost use Rattle.build_world.specs.Answers.{GivesFault};
@@ -27,7 +25,6 @@ ghost use Rattle.msb_items.specs.Truths.{truth_or};
 ghost use Rattle.msb_items.specs.TargetItems.{
   added_items,
   change_by,
-  item_change_if,
   item_changes,
   keeps_repeats,
   less_repeats,
@@ -40,7 +37,7 @@ ghost use Rattle.msb_items.specs.TargetItems.{
   with_pairs,
 };
 
-use crate::changes::{less_excluded, names_at, target_items_at};
+use crate::changes::{apply_exclude, names_at, target_items_at};
 use crate::files::ListedFiles;
 use crate::item_names::is_named;
 use crate::metadata::{Kind, metadata_on};
@@ -86,19 +83,19 @@ fn change<F: ListedFiles>(
         (attribute_of (codes "Update") (seen_element element.now))) }
 {
     if let Some(include) = element.element.attribute("Include") {
-        return included(alloc, context, kind, element, include);
+        return include_change(alloc, context, kind, element, include);
     }
     if let Some(remove) = element.element.attribute("Remove") {
-        return removed(alloc, context, kind, element, remove);
+        return remove_change(alloc, context, kind, element, remove);
     }
     match element.element.attribute("Update") {
-        Some(update) => updated(alloc, context, kind, element, update),
-        None => all_set(alloc, context, kind, element),
+        Some(update) => update_change(alloc, context, kind, element, update),
+        None => change_all(alloc, context, kind, element),
     }
 }
 
 /// Include adds items.
-fn included<F: ListedFiles>(
+fn include_change<F: ListedFiles>(
     alloc: Global,
     context: &ElementContext<'_, F>,
     kind: &Name,
@@ -112,7 +109,7 @@ fn included<F: ListedFiles>(
 {
     let items = source_items(alloc, context, element, include)?;
     let items = with_pairs(alloc, context, kind, element, items)?;
-    let items = less_repeats(alloc, context, kind, element, items)?;
+    let items = remove_repeats(alloc, context, kind, element, items)?;
     let kind = kind.copy()?;
     Ok(Change::AddItems(kind, List::from(items)))
 }
@@ -130,7 +127,7 @@ fn source_items<F: ListedFiles>(
 {
     let items = target_items_at(alloc, context, element, include)?;
     let exclude = element.element.attribute("Exclude");
-    let mut items = less_excluded(alloc, context, element, exclude, items)?;
+    let mut items = apply_exclude(alloc, context, element, exclude, items)?;
     let transfer = Transfer::of(alloc, context, element)?;
     transfer.apply(alloc, &mut items)?;
     Ok(items)
@@ -168,10 +165,10 @@ fn pairs_for<F: Present>(
     if items.is_empty() {
         return Ok(Pairs::new(alloc));
     }
-    pairs_written(alloc, context, kind, element)
+    pairs_on(alloc, context, kind, element)
 }
 
-fn pairs_written<F: Present>(
+fn pairs_on<F: Present>(
     alloc: Global,
     context: &ElementContext<'_, F>,
     kind: &Name,
@@ -181,18 +178,18 @@ fn pairs_written<F: Present>(
         (pairs_written (context_of F.files context.now) kind.now (seen_element element.now)) }
 {
     let written = metadata_on(alloc, Kind::TargetItem, element)?;
-    let mut made = Item {
+    let mut item = Item {
         ident: Text::from(String::new(alloc)),
         recursive: Text::from(String::new(alloc)),
         meta: Pairs::new(alloc),
     };
-    set_metadata(alloc, context, kind, &written, &mut made)?;
-    let (_, _, meta) = made.parts();
+    set_metadata(alloc, context, kind, &written, &mut item)?;
+    let (_, _, meta) = item.parts();
     Ok(meta)
 }
 
 /// Some items less those that are there already, unless the element keeps them.
-fn less_repeats<F: Present>(
+fn remove_repeats<F: Present>(
     alloc: Global,
     context: &ElementContext<'_, F>,
     kind: &Name,
@@ -207,11 +204,11 @@ fn less_repeats<F: Present>(
     if keeps_repeats(alloc, context, element, keep)? {
         return Ok(items);
     }
-    Ok(new_alone(alloc, context, kind, items)?)
+    Ok(unseen_items(alloc, context, kind, items)?)
 }
 
 /// The items that the bucket does not see already.
-fn new_alone<F: Present>(
+fn unseen_items<F: Present>(
     alloc: Global,
     context: &ElementContext<'_, F>,
     kind: &Name,
@@ -248,7 +245,7 @@ fn keeps_repeats<F: Present>(
 }
 
 /// Remove takes the items away that it names.
-fn removed<F: Present>(
+fn remove_change<F: Present>(
     alloc: Global,
     context: &ElementContext<'_, F>,
     kind: &Name,
@@ -285,7 +282,7 @@ fn idents_of(alloc: Global, items: &[&Item]) -> Result<List<Text>, NoMemory>
 }
 
 /// Update changes the metadata of the items that it names.
-fn updated<F: Present>(
+fn update_change<F: Present>(
     alloc: Global,
     context: &ElementContext<'_, F>,
     kind: &Name,
@@ -300,7 +297,7 @@ fn updated<F: Present>(
 {
     let items = named_items(alloc, context, kind, element, update)?;
     let items = copies_of(alloc, &items)?;
-    metadata_set(alloc, context, kind, element, items)
+    metadata_change(alloc, context, kind, element, items)
 }
 
 fn copies_of(alloc: Global, items: &[&Item]) -> Result<List<Item>, NoMemory>
@@ -326,13 +323,10 @@ fn named_items<'s, F: Present>(
         written.now) }
 {
     let names = names_at(alloc, context, element, written)?;
-    match named(alloc, context.project, &names, context.items(kind)) {
-        Ok(items) => Ok(items),
-        Err(_) => Err(EvalFault::from(NoMemory)),
-    }
+    Ok(find_named(alloc, context.project, &names, context.items(kind))?)
 }
 
-fn named<'s>(
+fn find_named<'s>(
     alloc: Global,
     project: &str,
     names: &ItemNames,
@@ -351,7 +345,7 @@ fn named<'s>(
 }
 
 /// An element with neither changes the metadata of all items that the bucket sees.
-fn all_set<F: Present>(
+fn change_all<F: Present>(
     alloc: Global,
     context: &ElementContext<'_, F>,
     kind: &Name,
@@ -362,11 +356,11 @@ fn all_set<F: Present>(
         (items_seen (context_of F.files context.now) kind.now)) }
 {
     let items = List::of(alloc, context.items(kind))?;
-    metadata_set(alloc, context, kind, element, items)
+    metadata_change(alloc, context, kind, element, items)
 }
 
 /// These items get the metadata that are written on the element.
-fn metadata_set<F: Present>(
+fn metadata_change<F: Present>(
     alloc: Global,
     context: &ElementContext<'_, F>,
     kind: &Name,
@@ -384,8 +378,6 @@ fn metadata_set<F: Present>(
 fn truth_of_escaped(alloc: Global, default: bool, text: &str) -> Result<bool, Cause>
     ensures { GivesCause result (truth_or default (unescaped text.now)) }
 {
-    let Ok(plain) = unescape(alloc, text) else {
-        return Err(Cause::Memory);
-    };
+    let plain = unescape(alloc, text)?;
     truth_or(alloc, default, plain.as_str())
 }

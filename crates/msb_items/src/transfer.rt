@@ -54,10 +54,10 @@ impl Transfer {
             (transfer_at (context_of F.files context.now) (seen_element element.now)) }
     {
         if let Some(keep) = element.element.attribute("KeepMetadata") {
-            return only(alloc, context, element, keep);
+            return read_keep(alloc, context, element, keep);
         }
         match element.element.attribute("RemoveMetadata") {
-            Some(remove) => without(alloc, context, element, remove),
+            Some(remove) => read_remove(alloc, context, element, remove),
             None => Ok(Transfer::All),
         }
     }
@@ -78,7 +78,7 @@ impl Transfer {
         match self {
             Transfer::All => Ok(()),
             Transfer::Only(names) => {
-                item.meta = only_named(alloc, names.as_slice(), &item.meta)?;
+                item.meta = keep_named(alloc, names.as_slice(), &item.meta)?;
                 Ok(())
             }
             Transfer::Without(names) => { take_named(&mut item.meta, names.as_slice()) }
@@ -86,7 +86,7 @@ impl Transfer {
     }
 }
 
-fn only<F: Present>(
+fn read_keep<F: Present>(
     alloc: Global,
     context: &ElementContext<'_, F>,
     element: &PlacedElement<'_>,
@@ -97,10 +97,10 @@ fn only<F: Present>(
         (text_at (context_of F.files context.now) (seen_element element.now) keep.now)) }
 {
     let text = context.text(alloc, element, keep)?;
-    Ok(only_listed(alloc, text.as_str())?)
+    Ok(parse_keep(alloc, text.as_str())?)
 }
 
-fn only_listed(alloc: Global, text: &str) -> Result<Transfer, NoMemory>
+fn parse_keep(alloc: Global, text: &str) -> Result<Transfer, NoMemory>
     ensures { IfOk result (λ transfer. transfer ≡ only_listed text.now) }
 {
     let entries = split_list(alloc, text)?;
@@ -110,7 +110,7 @@ fn only_listed(alloc: Global, text: &str) -> Result<Transfer, NoMemory>
     Ok(Transfer::Only(metadata_names(alloc, entries.as_slice())?))
 }
 
-fn without<F: Present>(
+fn read_remove<F: Present>(
     alloc: Global,
     context: &ElementContext<'_, F>,
     element: &PlacedElement<'_>,
@@ -121,10 +121,10 @@ fn without<F: Present>(
         (text_at (context_of F.files context.now) (seen_element element.now) remove.now)) }
 {
     let text = context.text(alloc, element, remove)?;
-    Ok(without_listed(alloc, text.as_str())?)
+    Ok(parse_remove(alloc, text.as_str())?)
 }
 
-fn without_listed(alloc: Global, text: &str) -> Result<Transfer, NoMemory>
+fn parse_remove(alloc: Global, text: &str) -> Result<Transfer, NoMemory>
     ensures { IfOk result (λ transfer. transfer ≡ without_listed text.now) }
 {
     let entries = split_list(alloc, text)?;
@@ -145,14 +145,14 @@ fn metadata_names(alloc: Global, entries: &[Text]) -> Result<List<Name>, NoMemor
 fn push_name(alloc: Global, names: &mut List<Name>, text: &str) -> Result<(), NoMemory>
     ensures { OnOk result (names.new ≡ names.old ++ option_to_list (key_of text.now)) }
 {
-    match Name::written(alloc, text)? {
+    match Name::look_up(alloc, text)? {
         Some(name) => names.push(name),
         None => Ok(()),
     }
 }
 
 /// The metadata of these names.
-fn only_named(alloc: Global, names: &[Name], meta: &Pairs) -> Result<Pairs, NoMemory>
+fn keep_named(alloc: Global, names: &[Name], meta: &Pairs) -> Result<Pairs, NoMemory>
     ensures { IfOk result (λ kept. kept ≡ only_named names.now meta.now) }
 {
     let mut kept = Pairs::new(alloc);

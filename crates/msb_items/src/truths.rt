@@ -1,6 +1,5 @@
-ghost use Rattle.std.specs.Prelude.{Err, None};
 ghost use Rattle.msb_values.specs.Caused.{GivesCause};
-ghost use Rattle.msb_items.specs.Truths.{truth_or, truth_or_cause};
+ghost use Rattle.msb_items.specs.Truths.{truth_or};
 
 use msb_values::{Cause, Text, truth_of};
 use std::alloc::Global;
@@ -15,15 +14,6 @@ pub fn truth_or(alloc: Global, default: bool, text: &str) -> Result<bool, Cause>
     }
     match truth_of(text) {
         Some(truth) => Ok(truth),
-        None => Err(not_boolean(alloc, text)),
-    }
-}
-
-fn not_boolean(alloc: Global, text: &str) -> Cause
-    ensures { GivesCause (Err result) (truth_or_cause text.now None) }
-{
-    match Text::of(alloc, text) {
-        Ok(text) => Cause::NotBoolean(text),
-        Err(_) => Cause::Memory,
+        None => Err(Cause::NotBoolean(Text::of(alloc, text)?)),
     }
 }

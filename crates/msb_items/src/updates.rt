@@ -116,12 +116,12 @@ fn replacement<F: Present>(
         (context_of F.files context.now) kind.now (map metadata_of written.now) item.now) }
 {
     if is_named(alloc, context.project, names, item)? {
-        return changed(alloc, context, kind, written, item);
+        return copy_with_metadata(alloc, context, kind, written, item);
     }
     Ok(None)
 }
 
-fn changed<F: Present>(
+fn copy_with_metadata<F: Present>(
     alloc: Global,
     context: &ElementContext<'_, F>,
     kind: &Name,

@@ -7,6 +7,6 @@ use Rattle.target_texts.specs.Made.{Made}
 
 -- all changes are behind those that were there, or those ahead of this fault
 abbrev pub Pushes : {X : Type 0} → Result X EvalFault → List Change → List Change → Made → Type 0
-Pushes (Ok x) before now made = (now ≡ before ++ made.changes) × (made.fault ≡ None)
-Pushes (Err fault) before now made = UnlessMemory fault.cause
-    ((now ≡ before ++ made.changes) × (made.fault ≡ Some fault))
+Pushes (Ok x) before now expected = (now ≡ before ++ expected.changes) × (expected.fault ≡ None)
+Pushes (Err fault) before now expected = UnlessMemory fault.cause
+    ((now ≡ before ++ expected.changes) × (expected.fault ≡ Some fault))

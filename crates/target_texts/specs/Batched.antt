@@ -1,11 +1,10 @@
 -- The buckets of a target. (MSBuild batching; Target element)
-use Rattle.std.specs.Prelude.{ℕ, List, [], ◌∷◌, None, Result, codes}
+use Rattle.std.specs.Prelude.{ℕ, List, [], ◌∷◌, Result, codes}
 use Rattle.msb_laws.specs.Words.{Text}
-use Rattle.msb_elements.specs.Nodes.{without_children}
 use Rattle.msb_expand.specs.declared.lens.Bucket.{Bucket}
-use Rattle.build_world.specs.Elements.{At, at}
+use Rattle.build_world.specs.Elements.{At}
 use Rattle.build_world.specs.declared.fault.EvalFault.{EvalFault}
-use Rattle.msb_items.specs.Batched.{element_buckets}
+use Rattle.msb_items.specs.Batched.{own_buckets}
 use Rattle.element_texts.specs.Contexts.{ElementContext, scene_in}
 
 -- the attributes of a target by which it is not batched
@@ -16,5 +15,4 @@ target_attributes =
 
 -- by its Inputs, Outputs and Returns
 abbrev pub target_buckets : ElementContext → At → Result (List Bucket) EvalFault
-target_buckets p e = element_buckets (scene_in p e.file) target_attributes
-    (at e.file (without_children e.node)) None
+target_buckets p e = own_buckets (scene_in p e.file) target_attributes e

@@ -12,7 +12,7 @@ pub fn without_lists(alloc: Global, bucket: &Bucket) -> Result<Bucket, NoMemory>
 {
     let mut values = List::new(alloc);
     for (kind, name, value) in bucket.values.as_slice() {
-        values.push((copied(kind)?, name.copy()?, value.copy()?))?;
+        values.push((copy_name(kind)?, name.copy()?, value.copy()?))?;
     }
     Ok(Bucket {
         values,
@@ -20,7 +20,7 @@ pub fn without_lists(alloc: Global, bucket: &Bucket) -> Result<Bucket, NoMemory>
     })
 }
 
-fn copied(kind: &Option<Name>) -> Result<Option<Name>, NoMemory>
+fn copy_name(kind: &Option<Name>) -> Result<Option<Name>, NoMemory>
     ensures { IfOk result (λ copy. copy ≡ kind.now) }
 {
     match kind {

@@ -69,10 +69,10 @@ impl Lists {
     {
         let bucket = without_lists(alloc, bucket)?;
         let context = context.in_bucket(&bucket);
-        Ok(Some(Lists::written(alloc, &context, element, inputs, outputs)?))
+        Ok(Some(Lists::of_texts(alloc, &context, element, inputs, outputs)?))
     }
 
-    fn written(
+    fn of_texts(
         alloc: Global,
         context: &ElementContext<'_, FileView<'_>>,
         element: &PlacedElement<'_>,
@@ -117,9 +117,7 @@ fn paths_of(alloc: Global, project: &str, items: &[Item]) -> Result<List<Text>, 
     let mut paths = List::new(alloc);
     for item in items {
         let path = path_of(alloc, project, item)?;
-        if paths.push(path).is_err() {
-            return Err(Cause::Memory);
-        }
+        paths.push(path)?;
     }
     Ok(paths)
 }
@@ -127,14 +125,9 @@ fn paths_of(alloc: Global, project: &str, items: &[Item]) -> Result<List<Text>, 
 fn path_of(alloc: Global, project: &str, item: &Item) -> Result<Text, Cause>
     ensures { GivesCause result (path_of project.now item.now) }
 {
-    let Ok(text) = unescape(alloc, item.ident.as_str()) else {
-        return Err(Cause::Memory);
-    };
+    let text = unescape(alloc, item.ident.as_str())?;
     match normal_path(alloc, folder_of(project), text.as_str()) {
-        Ok(path) => match Text::of(alloc, path.as_str()) {
-            Ok(path) => Ok(path),
-            Err(NoMemory) => Err(Cause::Memory),
-        },
+        Ok(path) => Ok(Text::of(alloc, path.as_str())?),
         Err(NormalFault::Memory) => Err(Cause::Memory),
         Err(_) => Err(Cause::BadPath(text)),
     }

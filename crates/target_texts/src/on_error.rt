@@ -41,12 +41,12 @@ impl OnError {
             (on_error_at (seen_context context.now) (seen_element element.now)) }
     {
         match element.element.attribute("ContinueOnError") {
-            Some(written) => OnError::written(alloc, context, element, written),
+            Some(written) => OnError::read(alloc, context, element, written),
             None => Ok(OnError::Stop),
         }
     }
 
-    fn written(
+    fn read(
         alloc: Global,
         context: &ElementContext<'_, FileView<'_>>,
         element: &PlacedElement<'_>,
@@ -76,16 +76,13 @@ impl OnError {
         if same_text(text, "ErrorAndContinue") {
             return Ok(OnError::Continue);
         }
-        match Text::of(alloc, text) {
-            Ok(text) => Err(Cause::NotBoolean(text)),
-            Err(NoMemory) => Err(Cause::Memory),
-        }
+        Err(Cause::NotBoolean(Text::of(alloc, text)?))
     }
 
     /// The notes of a task as they are kept: where the body goes on with a warning, its errors
     /// become warnings.
     pub fn notes(self, alloc: Global, notes: List<Note>) -> Result<List<Note>, NoMemory>
-        ensures { IfOk result (λ told. told ≡ notes_by self notes) }
+        ensures { IfOk result (λ kept. kept ≡ notes_by self notes) }
     {
         match self {
             OnError::Warn => as_warnings(alloc, notes),
@@ -95,13 +92,13 @@ impl OnError {
 }
 
 fn as_warnings(alloc: Global, notes: List<Note>) -> Result<List<Note>, NoMemory>
-    ensures { IfOk result (λ told. told ≡ map as_warning notes) }
+    ensures { IfOk result (λ warnings. warnings ≡ map as_warning notes) }
 {
-    let mut told = List::new(alloc);
+    let mut warnings = List::new(alloc);
     for note in notes.into_vec() {
-        told.push(as_warning(note))?;
+        warnings.push(as_warning(note))?;
     }
-    Ok(told)
+    Ok(warnings)
 }
 
 fn as_warning(note: Note) -> Note

@@ -35,7 +35,7 @@ use msb_expand::is_reserved;
 use msb_files::FileView;
 use msb_values::{Cause, Change, Copied, Item, List, Name, NoMemory, Text};
 use std::alloc::Global;
-use target_incremental::inferred;
+use target_incremental::infer;
 use task_trait::{Param, taken_items};
 
 /// Where an Output goes. (Output element.)
@@ -137,7 +137,7 @@ fn output_items<'g>(
     let Some(written) = output.element.attribute("TaskParameter") else {
         return Ok(None);
     };
-    match Name::written(alloc, written)? {
+    match Name::look_up(alloc, written)? {
         Some(name) => Ok(items_of(given, &name)),
         None => Ok(None),
     }
@@ -146,7 +146,7 @@ fn output_items<'g>(
 fn items_of<'g>(given: &'g List<Param>, name: &Name) -> Option<&'g [Item]>
     ensures { option_copied result ≡ inferred given.entry.now name.now }
 {
-    match inferred(given, name) {
+    match infer(given, name) {
         Some(items) => Some(items.as_slice()),
         None => None,
     }
@@ -159,7 +159,7 @@ impl Destination {
             (destination_of (seen_element output.now)) }
     {
         if let Some(kind) = output.element.attribute("ItemName") {
-            return match Name::written(alloc, kind)? {
+            return match Name::look_up(alloc, kind)? {
                 Some(kind) => Ok(Some(Destination::Items(kind))),
                 None => Ok(None),
             };
@@ -178,7 +178,7 @@ impl Destination {
         ensures { GivesFault (option_map seen_destination) result
             (property_named (seen_element output.now) (key_of name.now)) }
     {
-        match Name::written(alloc, name)? {
+        match Name::look_up(alloc, name)? {
             Some(name) if is_reserved(&name) => Err(output.fault(
                 alloc,
                 Cause::Reserved(Text::from(name)),
@@ -198,14 +198,14 @@ impl Destination {
         match self {
             Destination::Items(kind) => Ok(Change::AddItems(kind, items)),
             Destination::Property(name) => {
-                Ok(Change::SetProp(name, joined(alloc, items.as_slice())?))
+                Ok(Change::SetProp(name, join(alloc, items.as_slice())?))
             }
         }
     }
 }
 
 // The identities with `;` between them.
-fn joined(alloc: Global, items: &[Item]) -> Result<Text, NoMemory>
+fn join(alloc: Global, items: &[Item]) -> Result<Text, NoMemory>
     ensures { IfOk result (λ text. text ≡ joined (codes ";") items.now) }
 {
     match items {

@@ -84,11 +84,11 @@ impl<'a> TaskElement<'a> {
         if is_task_attribute(name.as_str()) {
             return Ok(None);
         }
-        let name = Name::written(alloc, name.as_str())?;
-        self.named(alloc, name, text.as_str())
+        let name = Name::look_up(alloc, name.as_str())?;
+        self.param_by_name(alloc, name, text.as_str())
     }
 
-    fn named(
+    fn param_by_name(
         &self,
         alloc: Global,
         name: Option<Name>,

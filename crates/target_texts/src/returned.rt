@@ -46,12 +46,12 @@ pub fn keeps_repeats(
         (keeps_repeats (seen_context context.now) (seen_element element.now)) }
 {
     match element.element.attribute("KeepDuplicateOutputs") {
-        Some(written) => keeps_written(alloc, context, element, written),
+        Some(written) => keeps_by_text(alloc, context, element, written),
         None => Ok(false),
     }
 }
 
-fn keeps_written(
+fn keeps_by_text(
     alloc: Global,
     context: &ElementContext<'_, FileView<'_>>,
     element: &PlacedElement<'_>,
@@ -110,10 +110,10 @@ pub fn listed_items(
         written.now) }
 {
     let items = context.list(alloc, element, written)?;
-    Ok(less_repeats(alloc, keeps, there, items)?)
+    Ok(remove_repeats(alloc, keeps, there, items)?)
 }
 
-fn less_repeats(
+fn remove_repeats(
     alloc: Global,
     keeps: bool,
     there: &KeyedItems,

@@ -36,7 +36,7 @@ returns g c =
     c.list_of-items.result.now =
     chosen context.project (λ test. next test (metadata_on item_attributes e) items) _ names
     c.in_ok-names.ensures
-    ∙ ap (λ written. next (is_named_by context.project names) written items) (sym c.in-Ok.ensures)
+    ∙ ap (λ written. next (is_named_by context.project names) written items) (sym c.in_ok-written.ensures)
     ∙ ap (λ written. next (is_named_by context.project names) (map metadata_of written) items)
     (sym c.deref.ensures.value)
     ∙ ap

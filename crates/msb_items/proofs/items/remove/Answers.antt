@@ -12,8 +12,8 @@ use Rattle.msb_values.proofs.Causing.{unless}
 use Rattle.msb_items.proofs.Stopping.{remapped}
 use Rattle.msb_items.proofs.items.remove.Goals as goal
 
-pub returns-in-Ok : goal.returns-in-Ok
-returns-in-Ok g c =
+pub returns : goal.returns
+returns g c =
     let scope = c.args.scope.now in
     let kind = c.args.kind.now in
     let project = c.args.source.now.project.now in
@@ -23,7 +23,7 @@ returns-in-Ok g c =
     (names_at context (seen_element c.args.element.now) c.args.written.now))
     (sym c.of_items-context.ensures)
     ∙ left_same (with_list scope kind) project items _ (seen_names c.in_ok-names.names)
-    c.in_ok-names.ensures ∙ ap Ok (sym c.in-Ok.ensures)
+    c.in_ok-names.ensures ∙ ap Ok (sym c.in_ok-remove_named.ensures)
 
 pub returns-in_err-names : goal.returns-in_err-names
 returns-in_err-names g c =

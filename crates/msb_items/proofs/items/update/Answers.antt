@@ -16,8 +16,8 @@ use Rattle.msb_items.proofs.Replacing.{updated_by}
 use Rattle.msb_values.proofs.Causing.{unless}
 use Rattle.msb_items.proofs.items.update.Goals as goal
 
-pub returns-in-Ok : goal.returns-in-Ok
-returns-in-Ok g c =
+pub returns : goal.returns
+returns g c =
     let context = context_of g.F.Present.files c.of_items-context.result in
     let kind = c.args.kind.now in
     let e = seen_element c.args.element.now in
@@ -31,7 +31,7 @@ returns-in-Ok g c =
     (ap
     (λ (seen : ElementContext). with_list seen.scope kind
     (replaced (list_of seen.scope kind) c.in_ok-replacements.replacements.items))
-    c.of_items-context.ensures ∙ sym c.in-Ok.ensures)
+    c.of_items-context.ensures ∙ sym c.in_ok-replace_in.ensures)
 
 pub returns-in_err-replacements : goal.returns-in_err-replacements
 returns-in_err-replacements g c =

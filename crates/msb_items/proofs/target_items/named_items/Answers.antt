@@ -12,13 +12,13 @@ use Rattle.msb_values.proofs.Causing.{unless}
 use Rattle.msb_items.proofs.Naming.{named_alike}
 use Rattle.msb_items.proofs.target_items.named_items.Goals as goal
 
-pub returns-in-Ok : goal.returns-in-Ok
-returns-in-Ok g c =
+pub returns : goal.returns
+returns g c =
     let context = context_of g.F.Present.files c.args.context.now in
     let names = seen_names c.in_ok-names.names in
     named_alike context.project (items_seen context c.args.kind.now) _ names c.in_ok-names.ensures
     ∙ ap Ok
-    (sym (c.in-Ok.ensures ∙ ap (filter (is_named_by context.project names)) c.items.ensures))
+    (sym (c.in_ok-find_named.ensures ∙ ap (filter (is_named_by context.project names)) c.items.ensures))
 
 pub returns-in_err-names : goal.returns-in_err-names
 returns-in_err-names g c =

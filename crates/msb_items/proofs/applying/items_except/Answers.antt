@@ -6,7 +6,7 @@ use Rattle.msb_values.specs.Changes.{without_named}
 use Rattle.msb_values.specs.Folded.{folded_bytes}
 use Rattle.msb_values.proofs.Sets.{folded_any, kept_turn}
 use Rattle.msb_items.proofs.SetLemmas.{as_if}
-use Rattle.msb_items.proofs.applying.without_named.Goals as goal
+use Rattle.msb_items.proofs.applying.items_except.Goals as goal
 
 pub loop-item-preserved : goal.loop-item-preserved
 loop-item-preserved c =
@@ -17,7 +17,7 @@ loop-item-preserved c =
     c.contains.ensures
     ∙ c.in_ok-named.ensures c.in_ok-ident.ident
     ∙ ap (λ keys. list_any (λ one. bytes_eq one c.in_ok-ident.ident) keys)
-    c.in_ok-all_folded.ensures
+    c.in_ok-fold_all.ensures
     ∙ ap (λ ident. list_any (λ one. bytes_eq one ident) (map folded_bytes texts))
     (c.in_ok-ident.ensures.value ∙ ap folded_bytes c.as_str.ensures)
     ∙ folded_any item.ident texts c.in_ok-ident.ensures.compared in

@@ -2,7 +2,7 @@ use Rattle.std.proofs.Common.{◌++◌, ◌∷◌, ◌∙◌, [], true, ap, sym,
 use Rattle.std.specs.Vec.Iter.{into_iter_items}
 use Rattle.msb_items.specs.RepeatKeys.{key_of}
 use Rattle.msb_items.proofs.SetLemmas.{has_added, keys_turn}
-use Rattle.msb_items.proofs.repeats.appended.Goals as goal
+use Rattle.msb_items.proofs.repeats.append_all.Goals as goal
 
 pub loop-item-preserved : goal.loop-item-preserved
 loop-item-preserved c =

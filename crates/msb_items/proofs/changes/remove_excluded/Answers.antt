@@ -7,12 +7,12 @@ use Rattle.element_texts.specs.Seen.{context_of}
 use Rattle.msb_items.proofs.Naming.{left_same}
 use Rattle.msb_values.proofs.Causing.{unless}
 use Rattle.msb_items.proofs.Stopping.{remapped}
-use Rattle.msb_items.proofs.changes.excluded.Goals as goal
+use Rattle.msb_items.proofs.changes.remove_excluded.Goals as goal
 
-pub returns-in-Ok : goal.returns-in-Ok
-returns-in-Ok g c =
+pub returns : goal.returns
+returns g c =
     left_same (λ items. items) c.args.context.now.project.now c.args.items.items _
-    (seen_names c.in_ok-names.names) c.in_ok-names.ensures ∙ ap Ok (sym c.in-Ok.ensures)
+    (seen_names c.in_ok-names.names) c.in_ok-names.ensures ∙ ap Ok (sym c.in_ok-keep_unnamed.ensures)
 
 pub returns-in_err-names : goal.returns-in_err-names
 returns-in_err-names g c =

@@ -9,16 +9,16 @@ use msb_paths::Present;
 
 /// A view of the files, and the path of the root file of the project.
 #[derive(Drop)]
-pub(crate) struct Source<'a, F> {
+pub(crate) struct ProjectFiles<'a, F> {
     pub(crate) files: &'a F,
     pub(crate) project: &'a str,
 }
 
-/// What does not change in the item pass: the source, and the paths of its files, in which patterns
-/// are looked up.
+/// What does not change in the item pass: the files, and their paths in order, in which patterns are
+/// looked up.
 #[derive(Drop)]
-pub(crate) struct ItemSource<'a, F: Present> {
-    pub(crate) source: Source<'a, F>,
+pub(crate) struct ItemFiles<'a, F: Present> {
+    pub(crate) source: ProjectFiles<'a, F>,
     pub(crate) paths: SortedPaths<'a, File>,
     pub(crate) ghost all: { paths ≡ F.files source.files.now },
 }
