@@ -25,20 +25,20 @@ pub fn build_on_one<W: Walker>(
     place: &mut W::Place,
     low: bool,
 ) -> Result<Outcome, NoMemory>
-    requires key { key ≡ (W.world walk).root }
-    requires begins { W.position walk ≡ begins (W.world walk) key [] }
-    requires asked { W.asked walk ≡ 0 }
-    requires learnt { W.learnt walk ≡ [] }
-    requires place { W.Fits place.old (W.world walk) }
-    ensures outcome { IfOk result (λ o. ∥ IsOutcome (W.world walk) low o ∥₁) }
+    requires key { key ≡ (W.seen walk).world.root }
+    requires begins { (W.seen walk).position ≡ begins (W.seen walk).world key [] }
+    requires asked { (W.seen walk).asked ≡ 0 }
+    requires learnt { (W.seen walk).learnt ≡ [] }
+    requires place { W.Fits place.old (W.seen walk).world }
+    ensures outcome { IfOk result (λ o. ∥ IsOutcome (W.seen walk).world low o ∥₁) }
     ensures status { IfOk result (λ o. IsCompletion o.status ⊎ IsRefusal o.status) }
-    ensures used { IfOk result
-        (λ o. ∥ IsUsedFor (W.world walk) low o (W.used place.old) (W.used place.new) ∥₁) }
+    ensures used { IfOk result (λ o. ∥ IsUsedFor (W.seen walk).world low o (W.used place.old)
+        (W.used place.new) ∥₁) }
     ensures front { IsPrefix (W.used place.old) (W.used place.new) }
-    ensures place { W.Fits place.new (W.world walk) }
+    ensures place { W.Fits place.new (W.seen walk).world }
     ensures lent { W.lent place.new ≡ W.lent place.old }
 {
-    let mut core = Core::boxed(alloc, key, walk)?;
+    let mut core = Core::new_boxed(alloc, key, walk)?;
     build_alone(&mut core, place);
     Outcome::of(alloc, &core, low)
 }

@@ -29,17 +29,17 @@ pub fn build_on_many<R: Threads + Wait + Sync, W: Walker + Send>(
 where
     W::Place: Send + Drop,
     W::Origin: Send,
-    requires key { key ≡ (W.world walk).root }
-    requires begins { W.position walk ≡ begins (W.world walk) key [] }
-    requires asked { W.asked walk ≡ 0 }
-    requires learnt { W.learnt walk ≡ [] }
+    requires key { key ≡ (W.seen walk).world.root }
+    requires begins { (W.seen walk).position ≡ begins (W.seen walk).world key [] }
+    requires asked { (W.seen walk).asked ≡ 0 }
+    requires learnt { (W.seen walk).learnt ≡ [] }
     requires places { (0 < vec_len places) × (vec_len places ≤ 64) }
-    requires fits { All (λ place. W.Fits place (W.world walk)) places.items }
-    ensures outcome { IfOk result (λ o. ∥ IsOutcome (W.world walk) low o ∥₁) }
-    ensures nodes { IfOk result (λ o. ∥ IsOutcomeOn (W.world walk) (vec_len places) low o ∥₁) }
+    requires fits { All (λ place. W.Fits place (W.seen walk).world) places.items }
+    ensures outcome { IfOk result (λ o. ∥ IsOutcome (W.seen walk).world low o ∥₁) }
+    ensures nodes { IfOk result (λ o. ∥ IsOutcomeOn (W.seen walk).world (vec_len places) low o ∥₁) }
     ensures status { IfOk result (λ o. IsCompletion o.status ⊎ IsRefusal o.status) }
 {
-    let core = Core::boxed(alloc, key, walk)?;
+    let core = Core::new_boxed(alloc, key, walk)?;
     let built = build_with(rt, alloc, core, places)?;
     Outcome::of(alloc, &built, low)
 }

@@ -1,3 +1,6 @@
+ghost use Rattle.std.specs.Prelude.{◌≡◌};
+ghost use Rattle.build_meaning.specs.Step.{whose};
+
 use msb_values::List;
 use result_cache::{RequestKey, RunId};
 
@@ -39,6 +42,22 @@ impl Drop for Event {
             Event::Claim(_, _, _) => {}
             Event::Done(_) => {}
             Event::Retire(_, _) => {}
+        }
+    }
+}
+
+impl Event {
+    /// The number of its request.
+    pub fn request(&self) -> u64
+        ensures { result ≡ whose self.now }
+    {
+        match self {
+            Event::Assign(id, _) => *id,
+            Event::Claim(id, _, _) => *id,
+            Event::Request(id, _) => *id,
+            Event::Result(id, _) => *id,
+            Event::Done(id) => *id,
+            Event::Retire(id, _) => *id,
         }
     }
 }

@@ -27,10 +27,12 @@ use Rattle.std.proofs.lemmas.List.{append-nil}
 use Rattle.std.proofs.Props.{props}
 use Rattle.std.specs.Prelude.{is_some}
 use Rattle.build_meaning.specs.declared.event.Event.{Event}
+use Rattle.build_meaning.specs.declared.event.Event.TheVariants.{Claim, Request, Result, Done}
 use Rattle.build_meaning.specs.World.{World}
 use Rattle.build_scheduler.specs.declared.slot.End.{End}
 use Rattle.build_scheduler.specs.Own.{Seen}
 use Rattle.build_scheduler.specs.Position.{Position}
+use Rattle.build_scheduler.proofs.Replying.{IsOwnEvent, OwnEvent}
 use Rattle.build_nodes.specs.declared.turn.Brought.{Brought}
 use Rattle.build_nodes.specs.declared.turn.Brought.TheVariants.{Nothing, Walk, Refused}
 use Rattle.build_nodes.specs.Leaving.{has_left, is_retire_of}
@@ -77,6 +79,20 @@ active-more node xs ys event before after b a is other e =
     ∙ (any-append node xs (event ∷ [])
     ∙ (ap (λ x. x || (is_retire_of node event || false)) (none-left node xs before b e)
     ∙ (or-none (is_retire_of node event) ∙ other))))
+
+own-other : (node id : ℕ) (event : Event) → IsOwnEvent id event → is_retire_of node event ≡ false
+own-other node id (Claim own run kind) e = refl
+own-other node id (Request own calls) e = refl
+own-other node id (Result own run) e = refl
+own-other node id (Done own) e = refl
+own-other node id _ e = absurd e
+
+-- an event by which a request is answered
+pub active-own : (node : ℕ) (xs ys : List Event) (id : ℕ) (before after : Option End)
+    → before ≡ None → after ≡ None → OwnEvent xs ys id → has_left node (marked xs before) ≡ false
+    → has_left node (marked ys after) ≡ false
+active-own node xs ys id before after b a x = active-more node xs ys x.event before after b a
+    x.comes (own-other node id x.event x.own)
 
 -- events of which none is a Retire of the node
 pub active-all : (node : ℕ) (xs ys more : List Event) (before after : Option End) →

@@ -33,23 +33,7 @@ use Rattle.build_meaning.specs.SoFar.{nothing_yet, recorded}
 use Rattle.build_meaning.specs.Stop.{ends, asks, run_on}
 use Rattle.build_meaning.specs.Walk.{gives, wants}
 use Rattle.build_meaning.specs.World.{World}
-use Rattle.build_meaning.specs.State.{
-  with_status,
-  Place,
-  walking,
-  within,
-  Status,
-  ready,
-  assigned,
-  waits,
-  calling,
-  done,
-  Origin,
-  RequestState,
-  State,
-  with_request,
-  start,
-}
+use Rattle.build_meaning.specs.State.{with_status, Place, walking, within, Status, ready, assigned, waits, calling, done, RequestState, State, with_request, start}
 use Rattle.build_meaning.specs.Step.{
   whose,
   only_if,
@@ -68,9 +52,14 @@ use Rattle.build_meaning.proofs.ListPlaces.{at-put_same, traverse-at}
 use Rattle.build_scheduler.specs.declared.slot.End.{End}
 use Rattle.build_scheduler.specs.declared.slot.Origin.{Origin as Kept}
 use Rattle.build_scheduler.specs.declared.slot.Slot.{Slot}
+use Rattle.build_scheduler.specs.declared.walker.Answer.{Answer}
+use Rattle.build_scheduler.specs.declared.walker.Answer.TheVariants.{Go as Goes, Use as Uses}
+use Rattle.build_scheduler.specs.declared.walker.Ask.{Ask}
+use Rattle.build_scheduler.specs.declared.walker.Ask.TheVariants.{Want, Call, Finished, Done}
 use Rattle.build_scheduler.specs.History.{History}
 use Rattle.build_scheduler.specs.Own.{Seen}
 use Rattle.build_scheduler.specs.Ready.{IsAssignedTo}
+use Rattle.build_scheduler.specs.Replies.{IsClaim, IsResult}
 use Rattle.build_scheduler.specs.Shown.{Shown}
 use Rattle.build_scheduler.proofs.HistoryFacts.{one_state}
 use Rattle.build_nodes.proofs.HistoryParts.{goes-on, last-of}
@@ -326,20 +315,25 @@ module _ {W P I A : Type 0} (seen : W → Seen P I A) (w : World P I A) {log : H
     was : ∥ IsAssignedTo w events id node ∥₁
     was = subst (λ (u : World P I A). ∥ IsAssignedTo u events id node ∥₁) (sym same) here
 
-    pub go-shown : (run : RunId) → log.events ≡ events ++ Claim id run Go ∷ []
+    -- the request goes on
+    pub claim-shown : (ask : Ask) (answer : Answer) → IsClaim events log.events id ask answer
         → ∥ IsAssignedTo w log.events id node ∥₁
-    go-shown run e = ∥∥₁_map₂ was x
+    claim-shown (Want run) Goes e = ∥∥₁_map₂ was x
         (λ here x. going-here w events log.events x.state id node here run e x.history)
-
-    pub use-shown : (run : RunId) → log.events ≡ events ++ Claim id run Use ∷ []
-        → ∥ IsAssignedTo w log.events id node ∥₁
-    use-shown run e = ∥∥₁_map₂ was x
+    claim-shown (Want run) Uses e = ∥∥₁_map₂ was x
         (λ here x. using-here w events log.events x.state id node here run e x.history)
+    claim-shown (Want run) _ e = absurd e
+    claim-shown (Call calls) answer e = absurd e
+    claim-shown (Finished run made) answer e = absurd e
+    claim-shown (Done told) answer e = absurd e
 
-    pub result-shown : (run : RunId) → log.events ≡ events ++ Result id run ∷ []
+    pub result-shown : (ask : Ask) → IsResult events log.events id ask
         → ∥ IsAssignedTo w log.events id node ∥₁
-    result-shown run e = ∥∥₁_map₂ was x
+    result-shown (Finished run made) e = ∥∥₁_map₂ was x
         (λ here x. finished-here w events log.events x.state id node here run e x.history)
+    result-shown (Want run) e = absurd e
+    result-shown (Call calls) e = absurd e
+    result-shown (Done told) e = absurd e
 
     -- nothing has changed
     pub kept-shown : log.events ≡ events → ∥ IsAssignedTo w log.events id node ∥₁

@@ -45,16 +45,18 @@ use Rattle.build_meaning.specs.declared.event.Event.TheVariants.{
 use Rattle.build_meaning.specs.World.{World}
 use Rattle.build_meaning.specs.History.{retires, AreOfNodes}
 use Rattle.build_scheduler.specs.declared.slot.End.{End}
-use Rattle.build_scheduler.specs.declared.slot.End.TheVariants.{
-  Root,
-  Circular,
-  TooDeep,
-  TooMany,
-  NoMemory,
+use Rattle.build_scheduler.specs.declared.slot.End.TheVariants.{Root, NoMemory}
+use Rattle.build_scheduler.specs.declared.walker.Ask.{Ask}
+use Rattle.build_scheduler.specs.declared.walker.Ask.TheVariants.{
+  Want,
+  Call,
+  Finished,
+  Done as IsDone,
 }
 use Rattle.build_scheduler.specs.Ready.{IsAssignedTo}
+use Rattle.build_scheduler.specs.Replies.{IsOver}
 use Rattle.build_scheduler.specs.Retired.{IsRetired}
-use Rattle.build_nodes.specs.Leaving.{IsCaused, IsSpent, has_left, is_retire_of}
+use Rattle.build_nodes.specs.Leaving.{IsSpent, has_left, is_retire_of}
 use Rattle.build_nodes.specs.Marked.{mark_of, marked}
 use Rattle.build_nodes.specs.Seats.{numbers_below}
 use Rattle.build_nodes.proofs.Either.{
@@ -120,32 +122,22 @@ module _ {P I A : Type 0} (w : World P I A) (nodes : ℕ) (events after : List E
       (left-retired node id r.0.0 events end same)
   retired-left false node here r = left-told node after end (ap is_some r.1)
 
--- an end that is caused is not want of memory
-caused-other : (end : End) → IsCaused end → end ≡ NoMemory → ⊥
-caused-other (Root told) c e = cc
-caused-other (Circular runs) c e = cc
-caused-other (TooDeep keys) c e = cc
-caused-other (TooMany instance) c e = cc
-caused-other NoMemory c e = c
-
-pub caused-spent : (nodes : ℕ) (events : List Event) (end : End) (told : Option End) → IsCaused end
-    → told ≡ Some end → IsSpent nodes events told
-caused-spent nodes events end told c e = λ no.
-    absurd (caused-other end c (let p : Some end ≡ Some NoMemory = sym e ∙ no in cc))
-
+-- where no end is told
 pub untold-spent : (nodes : ℕ) (events : List Event) (told : Option End) → told ≡ None
     → IsSpent nodes events told
 untold-spent nodes events told e = λ no. absurd
     (let clash : None ≡ Some NoMemory = sym e ∙ no in cc)
 
 -- a request that is over
-pub over-spent : (nodes : ℕ) (events : List Event) (id : ℕ) (end : End) (told : Option End)
-    → IsCaused end → (id ≡ 0 → told ≡ Some end) → ((id ≡ 0 → ⊥) → told ≡ None)
-    → IsSpent nodes events told
-over-spent nodes events zero end told c root others = caused-spent nodes events end told c
-    (root refl)
-over-spent nodes events (suc id) end told c root others = untold-spent nodes events told
-    (others (λ e. absurd (omega arith)))
+pub over-spent : (nodes : ℕ) (before events : List Event) (id : ℕ) (ask : Ask) (end : Option End)
+    → IsOver before events id ask end → IsSpent nodes events end
+over-spent nodes before events zero (IsDone told) end h = λ no. absurd
+    (let clash : Some (Root told) ≡ Some NoMemory = sym (h.1 refl) ∙ no in cc)
+over-spent nodes before events (suc id) (IsDone told) end h = untold-spent nodes events end
+    (h.2 (λ e. absurd (omega arith)))
+over-spent nodes before events id (Want run) end h = absurd h
+over-spent nodes before events id (Call calls) end h = absurd h
+over-spent nodes before events id (Finished run made) end h = absurd h
 
 -- the numbers of the nodes that have retired
 abbrev retired : List Event → List ℕ

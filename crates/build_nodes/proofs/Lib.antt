@@ -3,7 +3,6 @@ pub mod HistoryParts
 pub mod Here
 pub mod Marks
 pub mod Away
-pub mod Stops
 pub mod Turning
 pub mod Crossing
 pub mod CoreCrossing

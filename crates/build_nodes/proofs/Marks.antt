@@ -3,6 +3,7 @@ use Rattle.std.proofs.Common.{
   ◌≡◌,
   ◌+◌,
   ◌≤◌,
+  ℕ,
   suc,
   true,
   false,
@@ -33,6 +34,7 @@ use Rattle.build_meaning.specs.declared.event.Event.{Event}
 use Rattle.build_meaning.proofs.BuildingReplays.{map-append}
 use Rattle.build_scheduler.specs.declared.slot.End.{End}
 use Rattle.build_scheduler.specs.Drivers.{Continues}
+use Rattle.build_scheduler.proofs.Replying.{OwnEvent}
 use Rattle.build_nodes.specs.Marked.{mark_of, marked, has_mark}
 
 -- more events, or an end, continue a history without one
@@ -46,6 +48,10 @@ ahead xs ys more before after b e = (
       ∙ (ap (λ l. l ++ mark_of after) (sym (map-append Some xs more))
       ∙ ap (λ l. marked l after) (sym e)))),
 )
+
+pub own-ahead : (xs ys : List Event) (id : ℕ) (before after : Option End) → before ≡ None
+    → OwnEvent xs ys id → IsPrefix (marked xs before) (marked ys after)
+own-ahead xs ys id before after b x = ahead xs ys (x.event ∷ []) before after b x.comes
 
 pub none-more : (xs ys : List Event) (before after : Option End) → before ≡ None → ys ≡ xs
     → IsPrefix (marked xs before) (marked ys after)

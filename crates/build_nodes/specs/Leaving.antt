@@ -35,8 +35,3 @@ has_left node (Some event ∷ events) = is_retire_of node event || has_left node
 -- where a build ends for want of memory, all nodes but one have retired
 abbrev pub IsSpent : ℕ → List Event → Option End → Type 0
 IsSpent nodes events end = end ≡ Some NoMemory → suc (retires events) ≡ nodes
-
--- an end other than want of memory
-abbrev pub IsCaused : End → Type 0
-IsCaused NoMemory = ⊥
-IsCaused end = Unit {0}

@@ -2,26 +2,19 @@
 ghost use Rattle.std.specs.Prelude.{◌≡◌, ◌<◌, ◌^◌, false, drop, length, None, Some};
 ghost use Rattle.std.specs.List.{list_any};
 ghost use mathlib.Core.List.{IsPrefix};
-ghost use Rattle.build_meaning.specs.Step.{whose};
-ghost use Rattle.build_scheduler.specs.declared.walker.Answer.TheVariants.{Use};
-ghost use Rattle.build_scheduler.specs.declared.walker.Ask.TheVariants.{Call, Done, Finished, Want};
-ghost use Rattle.build_scheduler.specs.Drivers.{AreAlike, refusal_end};
-ghost use Rattle.build_scheduler.specs.Ends.{IsStop};
+ghost use Rattle.build_scheduler.specs.Drivers.{AreAlike};
 ghost use Rattle.build_scheduler.specs.Kept.{IsRepeated};
-ghost use Rattle.build_scheduler.specs.Own.{IsOut, IsOwn, seen_by};
+ghost use Rattle.build_scheduler.specs.Own.{IsOut, IsOwn};
 ghost use Rattle.build_scheduler.specs.Position.{answered, ask_of};
 ghost use Rattle.build_scheduler.specs.Ready.{IsAssignedTo, IsLeastReady};
-ghost use Rattle.build_nodes.specs.Leaving.{IsCaused, IsSpent, has_left, is_retire_of};
+ghost use Rattle.build_nodes.specs.Leaving.{IsSpent, has_left, is_retire_of};
 ghost use Rattle.build_nodes.specs.Marked.{marked};
 ghost use Rattle.build_nodes.specs.Turns.{CanGoBack, IsAnswered, IsAsking, IsBrought, IsNext};
 
 use crate::shared::few_events;
 use crate::turn::{Answered, Asking, Brought, Discarded, Held, Next};
-use build_scheduler::{
-    Answer, Ask, Claimed, Core, End, Event, RequestFault, Walker, are_of_others, learn_records,
-};
-use msb_values::{List, NoMemory};
-use result_cache::{RecordRef, RequestKey, RequestResult, RunId};
+use build_scheduler::{Answer, Core, Event, Reply, Walker, are_of_others, learn_records};
+use msb_values::NoMemory;
 
 /// One turn of a node: what it brings goes on, and where its request can't, the least request that
 /// is ready is assigned to the node. There is nothing to do next once the end is told, or the node
@@ -33,15 +26,15 @@ pub(crate) fn turn<W: Walker>(
     discarded: &mut Discarded<W>,
 ) -> Option<Next<W>>
     requires spent { IsSpent core.old.history.nodes core.old.history.events core.old.end }
-    requires brought { IsBrought (seen_by W.world W.position W.asked W.learnt) W.earlier node
-        (W.world_of core.old.world) (marked core.old.history.events core.old.end) brought }
+    requires brought { IsBrought W.seen W.earlier node (W.world_of core.old.world)
+        (marked core.old.history.events core.old.end) brought }
     ensures world { W.world_of core.new.world ≡ W.world_of core.old.world }
     ensures continues { IsPrefix (marked core.old.history.events core.old.end)
         (marked core.new.history.events core.new.end) }
     ensures nodes { core.new.history.nodes ≡ core.old.history.nodes }
     ensures spent { IsSpent core.new.history.nodes core.new.history.events core.new.end }
-    ensures next { IsNext (seen_by W.world W.position W.asked W.learnt) W.earlier node
-        (W.world_of core.new.world) (marked core.new.history.events core.new.end) result }
+    ensures next { IsNext W.seen W.earlier node (W.world_of core.new.world)
+        (marked core.new.history.events core.new.end) result }
 {
     if core.end().is_some() {
         return None;
@@ -99,15 +92,15 @@ fn bring_back<W: Walker>(
 ) -> Option<Next<W>>
     requires running { core.old.end ≡ None }
     requires active { has_left node (marked core.old.history.events core.old.end) ≡ false }
-    requires asking { ∥ IsAsking (seen_by W.world W.position W.asked W.learnt) W.earlier node
-        (W.world_of core.old.world) (marked core.old.history.events core.old.end) asking ∥₁ }
+    requires asking { ∥ IsAsking W.seen W.earlier node (W.world_of core.old.world)
+        (marked core.old.history.events core.old.end) asking ∥₁ }
     ensures world { W.world_of core.new.world ≡ W.world_of core.old.world }
     ensures continues { IsPrefix (marked core.old.history.events core.old.end)
         (marked core.new.history.events core.new.end) }
     ensures nodes { core.new.history.nodes ≡ core.old.history.nodes }
     ensures spent { IsSpent core.new.history.nodes core.new.history.events core.new.end }
-    ensures next { IsNext (seen_by W.world W.position W.asked W.learnt) W.earlier node
-        (W.world_of core.new.world) (marked core.new.history.events core.new.end) result }
+    ensures next { IsNext W.seen W.earlier node (W.world_of core.new.world)
+        (marked core.new.history.events core.new.end) result }
 {
     if are_of_others(core.history(), asking.id, asking.number) {
         go_on(core, node, asking, discarded)
@@ -134,21 +127,19 @@ fn go_on<W: Walker>(
     requires running { core.old.end ≡ None }
     requires active { has_left node (marked core.old.history.events core.old.end) ≡ false }
     requires own { ∥ IsOwn (W.world_of core.old.world) core.old.history.events
-        core.old.table.finished asking.id
-        (seen_by W.world W.position W.asked W.learnt asking.walk) ∥₁ }
+        core.old.table.finished asking.id (W.seen asking.walk) ∥₁ }
     requires here { ∥ IsAssignedTo (W.world_of core.old.world) core.old.history.events asking.id
         node ∥₁ }
-    requires back { ∥ CanGoBack (seen_by W.world W.position W.asked W.learnt) W.earlier
-        (W.world_of core.old.world) core.old.history.events core.old.table.finished asking.id
-        asking.walk asking.answer ∥₁ }
-    requires asks { ask_of (W.position asking.walk) ≡ asking.ask }
+    requires back { ∥ CanGoBack W.seen W.earlier (W.world_of core.old.world) core.old.history.events
+        core.old.table.finished asking.id asking.walk asking.answer ∥₁ }
+    requires asks { ask_of (W.seen asking.walk).position ≡ asking.ask }
     ensures world { W.world_of core.new.world ≡ W.world_of core.old.world }
     ensures continues { IsPrefix (marked core.old.history.events core.old.end)
         (marked core.new.history.events core.new.end) }
     ensures nodes { core.new.history.nodes ≡ core.old.history.nodes }
     ensures spent { IsSpent core.new.history.nodes core.new.history.events core.new.end }
-    ensures next { IsNext (seen_by W.world W.position W.asked W.learnt) W.earlier node
-        (W.world_of core.new.world) (marked core.new.history.events core.new.end) result }
+    ensures next { IsNext W.seen W.earlier node (W.world_of core.new.world)
+        (marked core.new.history.events core.new.end) result }
 {
     let Asking {
         id,
@@ -157,188 +148,32 @@ fn go_on<W: Walker>(
         ask,
         number: _,
     } = asking;
-    match ask {
-        Ask::Want(run) => claim(core, node, Held { id, walk, answer }, &run, discarded),
-        Ask::Call(calls) => request(core, node, Held { id, walk, answer }, calls, discarded),
-        Ask::Finished(run, made) => {
+    match core.answer_ask(id, walk, ask) {
+        Reply::GoesOn(walk, next) => {
             discarded.answer = Some(answer);
-            let answer = Answer::Use;
-            finish(core, node, Held { id, walk, answer }, &run, made)
-        }
-        Ask::Done(told) => { end_request(core, node, Held { id, walk, answer }, told, discarded) }
-    }
-}
-
-/// Claims the run that the walk wants.
-fn claim<W: Walker>(
-    core: &mut Core<W>,
-    node: u32,
-    held: Held<W>,
-    run: &RunId,
-    discarded: &mut Discarded<W>,
-) -> Option<Next<W>>
-    requires running { core.old.end ≡ None }
-    requires active { has_left node (marked core.old.history.events core.old.end) ≡ false }
-    requires own { ∥ IsOwn (W.world_of core.old.world) core.old.history.events
-        core.old.table.finished held.id (seen_by W.world W.position W.asked W.learnt held.walk) ∥₁ }
-    requires here { ∥ IsAssignedTo (W.world_of core.old.world) core.old.history.events held.id
-        node ∥₁ }
-    requires back { ∥ CanGoBack (seen_by W.world W.position W.asked W.learnt) W.earlier
-        (W.world_of core.old.world) core.old.history.events core.old.table.finished held.id
-        held.walk held.answer ∥₁ }
-    requires asks { ask_of (W.position held.walk) ≡ Want run.now }
-    ensures world { W.world_of core.new.world ≡ W.world_of core.old.world }
-    ensures continues { IsPrefix (marked core.old.history.events core.old.end)
-        (marked core.new.history.events core.new.end) }
-    ensures nodes { core.new.history.nodes ≡ core.old.history.nodes }
-    ensures spent { IsSpent core.new.history.nodes core.new.history.events core.new.end }
-    ensures next { IsNext (seen_by W.world W.position W.asked W.learnt) W.earlier node
-        (W.world_of core.new.world) (marked core.new.history.events core.new.end) result }
-{
-    let Held { id, walk, answer } = held;
-    match core.claim(id, walk, run) {
-        Ok(Claimed::Go(walk)) => {
-            discarded.answer = Some(answer);
-            let answer = Answer::Go;
+            let answer = next;
             give_answer(core, node, Held { id, walk, answer })
         }
-        Ok(Claimed::Use(walk)) => {
+        Reply::UsesOwn(walk) => {
             discarded.answer = Some(answer);
             let answer = Answer::Use;
-            give_answer(core, node, Held { id, walk, answer })
+            hand_over(core, node, Held { id, walk, answer })
         }
-        Ok(Claimed::Wait) => {
+        Reply::Waits => {
             discarded.answer = Some(answer);
             assign_least(core, node)
         }
-        Ok(Claimed::Circular(_walk, runs)) => stop(core, node, End::Circular(runs)),
-        Err(walk) => take_back(core, node, Held { id, walk, answer }),
-    }
-}
-
-/// Makes the requests that the walk calls.
-fn request<W: Walker>(
-    core: &mut Core<W>,
-    node: u32,
-    held: Held<W>,
-    calls: List<RequestKey>,
-    discarded: &mut Discarded<W>,
-) -> Option<Next<W>>
-    requires running { core.old.end ≡ None }
-    requires active { has_left node (marked core.old.history.events core.old.end) ≡ false }
-    requires own { ∥ IsOwn (W.world_of core.old.world) core.old.history.events
-        core.old.table.finished held.id (seen_by W.world W.position W.asked W.learnt held.walk) ∥₁ }
-    requires here { ∥ IsAssignedTo (W.world_of core.old.world) core.old.history.events held.id
-        node ∥₁ }
-    requires back { ∥ CanGoBack (seen_by W.world W.position W.asked W.learnt) W.earlier
-        (W.world_of core.old.world) core.old.history.events core.old.table.finished held.id
-        held.walk held.answer ∥₁ }
-    requires asks { ask_of (W.position held.walk) ≡ Call calls }
-    ensures world { W.world_of core.new.world ≡ W.world_of core.old.world }
-    ensures continues { IsPrefix (marked core.old.history.events core.old.end)
-        (marked core.new.history.events core.new.end) }
-    ensures nodes { core.new.history.nodes ≡ core.old.history.nodes }
-    ensures spent { IsSpent core.new.history.nodes core.new.history.events core.new.end }
-    ensures next { IsNext (seen_by W.world W.position W.asked W.learnt) W.earlier node
-        (W.world_of core.new.world) (marked core.new.history.events core.new.end) result }
-{
-    let Held { id, walk, answer } = held;
-    match core.request(id, walk, calls) {
-        Ok(()) => {
+        Reply::Over(left) => {
             discarded.answer = Some(answer);
+            discarded.walk = left;
+            if core.end().is_some() {
+                return None;
+            }
             assign_least(core, node)
         }
-        Err((walk, fault)) => refuse(core, node, Held { id, walk, answer }, fault),
+        Reply::Stopped => None,
+        Reply::NoMemory(walk) => take_back(core, node, Held { id, walk, answer }),
     }
-}
-
-/// Ends a build whose calls pass a limit; where there is no memory for them, the request goes back.
-fn refuse<W: Walker>(
-    core: &mut Core<W>,
-    node: u32,
-    held: Held<W>,
-    fault: RequestFault,
-) -> Option<Next<W>>
-    requires running { core.old.end ≡ None }
-    requires shown { IsStop (W.world_of core.old.world) core.old.history.events
-        (refusal_end fault) }
-    requires here { ∥ IsAssignedTo (W.world_of core.old.world) core.old.history.events held.id
-        node ∥₁ }
-    requires back { ∥ CanGoBack (seen_by W.world W.position W.asked W.learnt) W.earlier
-        (W.world_of core.old.world) core.old.history.events core.old.table.finished held.id
-        held.walk held.answer ∥₁ }
-    ensures world { W.world_of core.new.world ≡ W.world_of core.old.world }
-    ensures continues { IsPrefix (marked core.old.history.events core.old.end)
-        (marked core.new.history.events core.new.end) }
-    ensures nodes { core.new.history.nodes ≡ core.old.history.nodes }
-    ensures spent { IsSpent core.new.history.nodes core.new.history.events core.new.end }
-    ensures next { IsNext (seen_by W.world W.position W.asked W.learnt) W.earlier node
-        (W.world_of core.new.world) (marked core.new.history.events core.new.end) result }
-{
-    match fault {
-        RequestFault::TooDeep(keys) => stop(core, node, End::TooDeep(keys)),
-        RequestFault::TooMany(instance) => stop(core, node, End::TooMany(instance)),
-        RequestFault::Memory => take_back(core, node, held),
-    }
-}
-
-/// Finishes the run whose body has come to its end in the walk, which uses its record next.
-fn finish<W: Walker>(
-    core: &mut Core<W>,
-    node: u32,
-    held: Held<W>,
-    run: &RunId,
-    made: RecordRef,
-) -> Option<Next<W>>
-    requires running { core.old.end ≡ None }
-    requires active { has_left node (marked core.old.history.events core.old.end) ≡ false }
-    requires own { ∥ IsOwn (W.world_of core.old.world) core.old.history.events
-        core.old.table.finished held.id (seen_by W.world W.position W.asked W.learnt held.walk) ∥₁ }
-    requires here { ∥ IsAssignedTo (W.world_of core.old.world) core.old.history.events held.id
-        node ∥₁ }
-    requires answer { held.answer ≡ Use }
-    requires asks { ask_of (W.position held.walk) ≡ Finished run.now made }
-    ensures world { W.world_of core.new.world ≡ W.world_of core.old.world }
-    ensures continues { IsPrefix (marked core.old.history.events core.old.end)
-        (marked core.new.history.events core.new.end) }
-    ensures nodes { core.new.history.nodes ≡ core.old.history.nodes }
-    ensures spent { IsSpent core.new.history.nodes core.new.history.events core.new.end }
-    ensures next { IsNext (seen_by W.world W.position W.asked W.learnt) W.earlier node
-        (W.world_of core.new.world) (marked core.new.history.events core.new.end) result }
-{
-    core.result(held.id, run, made);
-    // The walk has made the record itself.
-    hand_over(core, node, held)
-}
-
-/// Ends the request, and with the root the build.
-fn end_request<W: Walker>(
-    core: &mut Core<W>,
-    node: u32,
-    held: Held<W>,
-    told: RequestResult,
-    discarded: &mut Discarded<W>,
-) -> Option<Next<W>>
-    requires running { core.old.end ≡ None }
-    requires active { has_left node (marked core.old.history.events core.old.end) ≡ false }
-    requires own { ∥ IsOwn (W.world_of core.old.world) core.old.history.events
-        core.old.table.finished held.id (seen_by W.world W.position W.asked W.learnt held.walk) ∥₁ }
-    requires asks { ask_of (W.position held.walk) ≡ Done told }
-    ensures world { W.world_of core.new.world ≡ W.world_of core.old.world }
-    ensures continues { IsPrefix (marked core.old.history.events core.old.end)
-        (marked core.new.history.events core.new.end) }
-    ensures nodes { core.new.history.nodes ≡ core.old.history.nodes }
-    ensures spent { IsSpent core.new.history.nodes core.new.history.events core.new.end }
-    ensures next { IsNext (seen_by W.world W.position W.asked W.learnt) W.earlier node
-        (W.world_of core.new.world) (marked core.new.history.events core.new.end) result }
-{
-    let Held { id, walk, answer } = held;
-    discarded.answer = Some(answer);
-    discarded.walk = core.end_request(id, walk, told);
-    if core.end().is_some() {
-        return None;
-    }
-    assign_least(core, node)
 }
 
 /// Assigns the least request that is ready to the node.
@@ -350,8 +185,8 @@ fn assign_least<W: Walker>(core: &mut Core<W>, node: u32) -> Option<Next<W>>
         (marked core.new.history.events core.new.end) }
     ensures nodes { core.new.history.nodes ≡ core.old.history.nodes }
     ensures spent { IsSpent core.new.history.nodes core.new.history.events core.new.end }
-    ensures next { IsNext (seen_by W.world W.position W.asked W.learnt) W.earlier node
-        (W.world_of core.new.world) (marked core.new.history.events core.new.end) result }
+    ensures next { IsNext W.seen W.earlier node (W.world_of core.new.world)
+        (marked core.new.history.events core.new.end) result }
 {
     match next_ready(core, node) {
         None => Some(Next::Park(core.history().len())),
@@ -409,8 +244,7 @@ fn give_answer<W: Walker>(core: &mut Core<W>, node: u32, held: Held<W>) -> Optio
     requires running { core.old.end ≡ None }
     requires active { has_left node (marked core.old.history.events core.old.end) ≡ false }
     requires out { ∥ IsOut (W.world_of core.old.world) core.old.history.events
-        core.old.table.finished held.id (seen_by W.world W.position W.asked W.learnt held.walk)
-        held.answer ∥₁ }
+        core.old.table.finished held.id (W.seen held.walk) held.answer ∥₁ }
     requires here { ∥ IsAssignedTo (W.world_of core.old.world) core.old.history.events held.id
         node ∥₁ }
     ensures world { W.world_of core.new.world ≡ W.world_of core.old.world }
@@ -418,8 +252,8 @@ fn give_answer<W: Walker>(core: &mut Core<W>, node: u32, held: Held<W>) -> Optio
         (marked core.new.history.events core.new.end) }
     ensures nodes { core.new.history.nodes ≡ core.old.history.nodes }
     ensures spent { IsSpent core.new.history.nodes core.new.history.events core.new.end }
-    ensures next { IsNext (seen_by W.world W.position W.asked W.learnt) W.earlier node
-        (W.world_of core.new.world) (marked core.new.history.events core.new.end) result }
+    ensures next { IsNext W.seen W.earlier node (W.world_of core.new.world)
+        (marked core.new.history.events core.new.end) result }
 {
     let Held {
         id,
@@ -438,19 +272,18 @@ fn hand_over<W: Walker>(core: &mut Core<W>, node: u32, held: Held<W>) -> Option<
     requires running { core.old.end ≡ None }
     requires active { has_left node (marked core.old.history.events core.old.end) ≡ false }
     requires out { ∥ IsOut (W.world_of core.old.world) core.old.history.events
-        core.old.table.finished held.id (seen_by W.world W.position W.asked W.learnt held.walk)
-        held.answer ∥₁ }
+        core.old.table.finished held.id (W.seen held.walk) held.answer ∥₁ }
     requires here { ∥ IsAssignedTo (W.world_of core.old.world) core.old.history.events held.id
         node ∥₁ }
-    requires enough { AreAlike (W.world held.walk) (W.learnt held.walk) core.old.table.finished
-        (W.position held.walk) held.answer }
+    requires enough { AreAlike (W.seen held.walk).world (W.seen held.walk).learnt
+        core.old.table.finished (W.seen held.walk).position held.answer }
     ensures world { W.world_of core.new.world ≡ W.world_of core.old.world }
     ensures continues { IsPrefix (marked core.old.history.events core.old.end)
         (marked core.new.history.events core.new.end) }
     ensures nodes { core.new.history.nodes ≡ core.old.history.nodes }
     ensures spent { IsSpent core.new.history.nodes core.new.history.events core.new.end }
-    ensures next { IsNext (seen_by W.world W.position W.asked W.learnt) W.earlier node
-        (W.world_of core.new.world) (marked core.new.history.events core.new.end) result }
+    ensures next { IsNext W.seen W.earlier node (W.world_of core.new.world)
+        (marked core.new.history.events core.new.end) result }
 {
     let Held { id, walk, answer } = held;
     Some(Next::Advance(Answered {
@@ -471,15 +304,15 @@ fn give_back<W: Walker>(
 ) -> Option<Next<W>>
     requires running { core.old.end ≡ None }
     requires active { has_left node (marked core.old.history.events core.old.end) ≡ false }
-    requires answered { ∥ IsAnswered (seen_by W.world W.position W.asked W.learnt) W.earlier node
-        (W.world_of core.old.world) (marked core.old.history.events core.old.end) answered ∥₁ }
+    requires answered { ∥ IsAnswered W.seen W.earlier node (W.world_of core.old.world)
+        (marked core.old.history.events core.old.end) answered ∥₁ }
     ensures world { W.world_of core.new.world ≡ W.world_of core.old.world }
     ensures continues { IsPrefix (marked core.old.history.events core.old.end)
         (marked core.new.history.events core.new.end) }
     ensures nodes { core.new.history.nodes ≡ core.old.history.nodes }
     ensures spent { IsSpent core.new.history.nodes core.new.history.events core.new.end }
-    ensures next { IsNext (seen_by W.world W.position W.asked W.learnt) W.earlier node
-        (W.world_of core.new.world) (marked core.new.history.events core.new.end) result }
+    ensures next { IsNext W.seen W.earlier node (W.world_of core.new.world)
+        (marked core.new.history.events core.new.end) result }
 {
     let Answered {
         id,
@@ -500,16 +333,15 @@ fn take_back<W: Walker>(core: &mut Core<W>, node: u32, held: Held<W>) -> Option<
     requires running { core.old.end ≡ None }
     requires here { ∥ IsAssignedTo (W.world_of core.old.world) core.old.history.events held.id
         node ∥₁ }
-    requires back { ∥ CanGoBack (seen_by W.world W.position W.asked W.learnt) W.earlier
-        (W.world_of core.old.world) core.old.history.events core.old.table.finished held.id
-        held.walk held.answer ∥₁ }
+    requires back { ∥ CanGoBack W.seen W.earlier (W.world_of core.old.world) core.old.history.events
+        core.old.table.finished held.id held.walk held.answer ∥₁ }
     ensures world { W.world_of core.new.world ≡ W.world_of core.old.world }
     ensures continues { IsPrefix (marked core.old.history.events core.old.end)
         (marked core.new.history.events core.new.end) }
     ensures nodes { core.new.history.nodes ≡ core.old.history.nodes }
     ensures spent { IsSpent core.new.history.nodes core.new.history.events core.new.end }
-    ensures next { IsNext (seen_by W.world W.position W.asked W.learnt) W.earlier node
-        (W.world_of core.new.world) (marked core.new.history.events core.new.end) result }
+    ensures next { IsNext W.seen W.earlier node (W.world_of core.new.world)
+        (marked core.new.history.events core.new.end) result }
 {
     let Held {
         id,
@@ -525,8 +357,7 @@ fn take_back<W: Walker>(core: &mut Core<W>, node: u32, held: Held<W>) -> Option<
 fn retire<W: Walker>(core: &mut Core<W>, node: u32, held: Held<W>) -> Option<Next<W>>
     requires running { core.old.end ≡ None }
     requires out { ∥ IsOut (W.world_of core.old.world) core.old.history.events
-        core.old.table.finished held.id (seen_by W.world W.position W.asked W.learnt held.walk)
-        held.answer ∥₁ }
+        core.old.table.finished held.id (W.seen held.walk) held.answer ∥₁ }
     requires here { ∥ IsAssignedTo (W.world_of core.old.world) core.old.history.events held.id
         node ∥₁ }
     ensures world { W.world_of core.new.world ≡ W.world_of core.old.world }
@@ -534,27 +365,10 @@ fn retire<W: Walker>(core: &mut Core<W>, node: u32, held: Held<W>) -> Option<Nex
         (marked core.new.history.events core.new.end) }
     ensures nodes { core.new.history.nodes ≡ core.old.history.nodes }
     ensures spent { IsSpent core.new.history.nodes core.new.history.events core.new.end }
-    ensures next { IsNext (seen_by W.world W.position W.asked W.learnt) W.earlier node
-        (W.world_of core.new.world) (marked core.new.history.events core.new.end) result }
+    ensures next { IsNext W.seen W.earlier node (W.world_of core.new.world)
+        (marked core.new.history.events core.new.end) result }
 {
     let Held { id, walk, answer } = held;
     core.retire(id, walk, answer);
-    None
-}
-
-/// Tells the end of a build that can't go on.
-fn stop<W: Walker>(core: &mut Core<W>, node: u32, end: End) -> Option<Next<W>>
-    requires running { core.old.end ≡ None }
-    requires shown { IsStop (W.world_of core.old.world) core.old.history.events end }
-    requires caused { IsCaused end }
-    ensures world { W.world_of core.new.world ≡ W.world_of core.old.world }
-    ensures continues { IsPrefix (marked core.old.history.events core.old.end)
-        (marked core.new.history.events core.new.end) }
-    ensures nodes { core.new.history.nodes ≡ core.old.history.nodes }
-    ensures spent { IsSpent core.new.history.nodes core.new.history.events core.new.end }
-    ensures next { IsNext (seen_by W.world W.position W.asked W.learnt) W.earlier node
-        (W.world_of core.new.world) (marked core.new.history.events core.new.end) result }
-{
-    core.stop(end);
     None
 }

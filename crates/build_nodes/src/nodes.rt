@@ -22,7 +22,6 @@ ghost use Rattle.std.specs.Prelude.{
 };
 ghost use mathlib.Core.List.{IsPrefix};
 ghost use Rattle.build_scheduler.specs.Ends.{IsEnd};
-ghost use Rattle.build_scheduler.specs.Own.{seen_by};
 ghost use Rattle.build_meaning.specs.History.{AreOfNodes};
 ghost use Rattle.build_nodes.specs.Leaving.{IsSpent, has_left};
 ghost use Rattle.build_scheduler.specs.Drivers.{Continues, IsLegal};
@@ -67,14 +66,12 @@ where
     W::Origin: Send,
     requires board { seat.old.board ≡ board.now }
     requires home { seat.old.has_state ≡ false }
-    requires brought { IsSomeAnd seat.old.world
-        (λ first. IsBrought (seen_by W.world W.position W.asked W.learnt) W.earlier number
+    requires brought { IsSomeAnd seat.old.world (λ first. IsBrought W.seen W.earlier number
         (W.world_of first.world) seat.old.seen brought) }
     ensures home { seat.new.has_state ≡ false }
     ensures kept { (seat.new.board ≡ seat.old.board) × (seat.new.share ≡ seat.old.share)
         × (seat.new.world ≡ seat.old.world) }
-    ensures next { IsSomeAnd seat.new.world
-        (λ first. IsNext (seen_by W.world W.position W.asked W.learnt) W.earlier number
+    ensures next { IsSomeAnd seat.new.world (λ first. IsNext W.seen W.earlier number
         (W.world_of first.world) seat.new.seen result.next) }
 {
     let mut shared = match board.take(seat) {
@@ -102,14 +99,11 @@ fn advance<W: Walker + Send>(node: &mut Node<W>, answered: Answered<W>) -> Broug
 where
     W::Place: Send + Drop,
     W::Origin: Send,
-    requires answered { IsSomeAnd node.old.seat.world
-        (λ first.
-        ∥ IsAnswered (seen_by W.world W.position W.asked W.learnt) W.earlier node.old.number
-        (W.world_of first.world) node.old.seat.seen answered ∥₁) }
+    requires answered { IsSomeAnd node.old.seat.world (λ first. ∥ IsAnswered W.seen W.earlier
+        node.old.number (W.world_of first.world) node.old.seat.seen answered ∥₁) }
     ensures seat { (node.new.seat ≡ node.old.seat) × (node.new.number ≡ node.old.number) }
-    ensures brought { IsSomeAnd node.old.seat.world
-        (λ first. IsBrought (seen_by W.world W.position W.asked W.learnt) W.earlier node.old.number
-        (W.world_of first.world) node.old.seat.seen result) }
+    ensures brought { IsSomeAnd node.old.seat.world (λ first. IsBrought W.seen W.earlier
+        node.old.number (W.world_of first.world) node.old.seat.seen result) }
 {
     let Answered {
         id,
@@ -144,13 +138,11 @@ fn go_on<R: Wait, W: Walker + Send>(
 where
     W::Place: Send + Drop,
     W::Origin: Send,
-    requires next { IsSomeAnd node.old.seat.world
-        (λ first. IsNext (seen_by W.world W.position W.asked W.learnt) W.earlier node.old.number
+    requires next { IsSomeAnd node.old.seat.world (λ first. IsNext W.seen W.earlier node.old.number
         (W.world_of first.world) node.old.seat.seen (Some next)) }
     ensures seat { (node.new.seat ≡ node.old.seat) × (node.new.number ≡ node.old.number) }
-    ensures brought { IsSomeAnd node.old.seat.world
-        (λ first. IsBrought (seen_by W.world W.position W.asked W.learnt) W.earlier node.old.number
-        (W.world_of first.world) node.old.seat.seen result) }
+    ensures brought { IsSomeAnd node.old.seat.world (λ first. IsBrought W.seen W.earlier
+        node.old.number (W.world_of first.world) node.old.seat.seen result) }
 {
     match next {
         Next::Missed(brought) => {
@@ -176,9 +168,8 @@ where
     W::Place: Send + Drop,
     W::Origin: Send,
     requires seated { IsSeated board.now node.old.seat }
-    requires brought { IsSomeAnd node.old.seat.world
-        (λ first. IsBrought (seen_by W.world W.position W.asked W.learnt) W.earlier node.old.number
-        (W.world_of first.world) node.old.seat.seen brought) }
+    requires brought { IsSomeAnd node.old.seat.world (λ first. IsBrought W.seen W.earlier
+        node.old.number (W.world_of first.world) node.old.seat.seen brought) }
     ensures seated { IsSeated board.now node.new.seat }
     ensures number { node.new.number ≡ node.old.number }
     ensures left { HasLeft node.new.number node.new.seat }
@@ -205,12 +196,8 @@ where
     requires seated { IsSeated board.now node.old.seat }
     ensures seated { IsSeated board.now node.new.seat }
     ensures number { node.new.number ≡ node.old.number }
-    ensures answered { IfSome result
-        (λ a.
-        IsSomeAnd node.new.seat.world
-        (λ first.
-        ∥ IsAnswered (seen_by W.world W.position W.asked W.learnt) W.earlier node.new.number
-        (W.world_of first.world) node.new.seat.seen a ∥₁)) }
+    ensures answered { IfSome result (λ a. IsSomeAnd node.new.seat.world (λ first. ∥ IsAnswered
+        W.seen W.earlier node.new.number (W.world_of first.world) node.new.seat.seen a ∥₁)) }
     ensures left { result ≡ None → HasLeft node.new.number node.new.seat }
 {
     let mut brought = Brought::Nothing(0);
@@ -330,10 +317,8 @@ where
     W::Origin: Send,
     requires seated { IsSeated board.now node.seat
         × All (λ n. IsSeated board.now n.seat) others.items }
-    requires answered { IsSomeAnd node.seat.world
-        (λ first.
-        ∥ IsAnswered (seen_by W.world W.position W.asked W.learnt) W.earlier node.number
-        (W.world_of first.world) node.seat.seen answered ∥₁) }
+    requires answered { IsSomeAnd node.seat.world (λ first. ∥ IsAnswered W.seen W.earlier
+        node.number (W.world_of first.world) node.seat.seen answered ∥₁) }
     requires room { vec_len others < vec_capacity others }
     ensures seated { All (λ n. IsSeated board.now n.seat) result.items }
     ensures left { All (λ n. HasLeft n.number n.seat) result.items }
@@ -350,11 +335,8 @@ where
             × (vec_len result ≡ vec_len others) × (vec_capacity result ≡ vec_capacity others) }
     { run_all(rt, board, false, others) };
     let here = move || -> Node<W>
-        requires { IsSeated board.now node.seat
-            × IsSomeAnd node.seat.world
-            (λ first.
-            ∥ IsAnswered (seen_by W.world W.position W.asked W.learnt) W.earlier node.number
-            (W.world_of first.world) node.seat.seen answered ∥₁) }
+        requires { IsSeated board.now node.seat × IsSomeAnd node.seat.world (λ first. ∥ IsAnswered
+            W.seen W.earlier node.number (W.world_of first.world) node.seat.seen answered ∥₁) }
         ensures { IsSeated board.entry.now result.seat × HasLeft result.number result.seat
             × (result.number ≡ node.number) }
     {

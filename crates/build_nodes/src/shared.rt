@@ -1,6 +1,5 @@
 ghost use Rattle.std.specs.Prelude.{◌≡◌, ◌+◌, ◌<◌, ◌^◌, None, length};
 ghost use mathlib.Core.List.{IsPrefix};
-ghost use Rattle.build_scheduler.specs.Own.{seen_by};
 ghost use Rattle.build_nodes.specs.Leaving.{IsSpent};
 ghost use Rattle.build_nodes.specs.Marked.{marked};
 ghost use Rattle.build_nodes.specs.Turns.{IsBrought, IsNext};
@@ -48,15 +47,13 @@ impl<W: Walker> Shared<W> {
         brought: Brought<W>,
         discarded: &mut Discarded<W>,
     ) -> Option<Next<W>>
-        requires brought { IsBrought (seen_by W.world W.position W.asked W.learnt) W.earlier node
-            (W.world_of self.old.core.world) (marked self.old.core.history.events self.old.core.end)
-            brought }
+        requires brought { IsBrought W.seen W.earlier node (W.world_of self.old.core.world)
+            (marked self.old.core.history.events self.old.core.end) brought }
         ensures first { self.new.first ≡ self.old.first }
         ensures continues { IsPrefix (marked self.old.core.history.events self.old.core.end)
             (marked self.new.core.history.events self.new.core.end) }
-        ensures next { IsNext (seen_by W.world W.position W.asked W.learnt) W.earlier node
-            (W.world_of self.new.core.world) (marked self.new.core.history.events self.new.core.end)
-            result }
+        ensures next { IsNext W.seen W.earlier node (W.world_of self.new.core.world)
+            (marked self.new.core.history.events self.new.core.end) result }
         ensures few { length (marked self.new.core.history.events self.new.core.end) < 2 ^ 63 }
     {
         let next = turn(&mut self.core, node, brought, discarded);

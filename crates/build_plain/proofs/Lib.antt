@@ -6,3 +6,4 @@ pub mod Turns
 pub mod Using
 pub mod Fronts
 pub mod Repeats
+pub mod Replied

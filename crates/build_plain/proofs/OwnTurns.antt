@@ -6,29 +6,16 @@ use Rattle.std.proofs.Math.Nat.{ℕ_set}
 use Rattle.std.proofs.Props.{props}
 use Rattle.std.specs.Prelude.{IsSome, is_some}
 use Rattle.result_cache.specs.declared.run.RunId.{RunId}
-use Rattle.result_cache.specs.declared.request.RequestKey.{RequestKey}
 use Rattle.result_cache.specs.declared.record.Record.{Record}
 use Rattle.result_cache.specs.Table.{Records, found}
 use Rattle.build_meaning.specs.declared.event.Event.{Event}
 use Rattle.build_meaning.specs.World.{World}
-use Rattle.build_scheduler.specs.declared.walker.Ask.{Ask}
 use Rattle.build_scheduler.specs.declared.walker.Answer.{Answer}
 use Rattle.build_scheduler.specs.declared.walker.Answer.TheVariants.{First}
-use Rattle.build_scheduler.specs.declared.request.RequestFault.{RequestFault}
-use Rattle.build_scheduler.specs.declared.request.RequestFault.TheVariants.{
-  TooDeep,
-  TooMany,
-  Memory,
-}
-use Rattle.build_scheduler.specs.Claims.{ClosesCycle}
-use Rattle.build_scheduler.specs.Ends.{IsStop}
 use Rattle.build_scheduler.specs.Learnt.{ArePartOf}
-use Rattle.build_scheduler.specs.Own.{Seen, IsWith, Asks, IsOwn, IsOut}
-use Rattle.build_scheduler.specs.Position.{ask_of, answered, IsInTurn}
-use Rattle.build_scheduler.specs.Requests.{IsRefused}
-use Rattle.build_scheduler.specs.declared.slot.End.TheVariants.{Circular}
+use Rattle.build_scheduler.specs.Own.{Seen, IsWith, IsOwn, IsOut}
+use Rattle.build_scheduler.specs.Position.{answered, IsInTurn}
 use Rattle.build_scheduler.proofs.HistoryFacts.{some-prop, in_order-prop}
-use Rattle.build_scheduler.specs.Drivers.{refusal_end}
 
 shared-prop : (part table : Records) (p q : (run : RunId) (made : Record)
     → found part run ≡ Some made → found table run ≡ Some made) → p ≡ q
@@ -85,21 +72,3 @@ module _ {P I A : Type 0} (w : World P I A) (events : List Event) (table : Recor
           asked = omega arith;
           few = let f : walk.asked < length events = o.few in omega arith;
         })
-
-  pub asks-of : (ask : Ask) → ∥ IsOwn w events table id walk ∥₁ → ask_of walk.position ≡ ask
-      → ∥ Asks w events id ask ∥₁
-  asks-of ask own e = ∥∥₁_map own
-      (λ o. record { position = walk.position; stands = o.stands; asks = e })
-
-module _ {P I A : Type 0} (w : World P I A) (events : List Event) (id : ℕ) where
-  -- calls that are refused end the build
-  pub refused-shown : (calls : List RequestKey) (fault : RequestFault)
-      → IsRefused w events id calls fault → IsStop w events (refusal_end fault)
-  refused-shown calls (TooDeep keys) h = ∥∥₁_map h (λ x. (id, calls, x))
-  refused-shown calls (TooMany instance) h = ∥∥₁_map h (λ x. (id, calls, x))
-  refused-shown calls Memory h = tt
-
-  -- and so does a cycle of runs
-  pub cycle-shown : (run : RunId) (runs : List RunId) → ∥ ClosesCycle w events id run runs ∥₁
-      → IsStop w events (Circular runs)
-  cycle-shown run runs h = ∥∥₁_map h (λ x. (id, run, x))

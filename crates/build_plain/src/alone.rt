@@ -1,4 +1,4 @@
-ghost use Rattle.std.specs.Prelude.{◌≡◌, ◌+◌, ◌^◌, ◌<◌, ◌++◌, [], None, Some, IsSome, length};
+ghost use Rattle.std.specs.Prelude.{◌≡◌, ◌+◌, ◌^◌, ◌<◌, ◌++◌, List, [], None, Some, IsSome, length};
 ghost use mathlib.Core.List.{IsPrefix};
 ghost use Rattle.build_meaning.specs.declared.event.Event.{Event};
 ghost use Rattle.build_meaning.specs.History.{retires};
@@ -14,16 +14,14 @@ ghost use Rattle.build_plain.specs.Driven.{
   OnlyAssigned,
 };
 ghost use Rattle.build_scheduler.specs.Drivers.{Continues, IsLegal};
-ghost use Rattle.build_scheduler.specs.declared.walker.Ask.TheVariants.{Want, Call, Done as IsOver};
 ghost use Rattle.build_scheduler.specs.Ends.{IsStop};
 ghost use Rattle.build_scheduler.specs.Kept.{IsRepeated};
-ghost use Rattle.build_scheduler.specs.Own.{IsOut, IsOwn, seen_by};
+ghost use Rattle.build_scheduler.specs.Own.{IsOut, IsOwn};
 ghost use Rattle.build_scheduler.specs.Position.{answered, ask_of};
 ghost use Rattle.build_scheduler.specs.Ready.{IsLeastReady};
 
-use build_scheduler::{Answer, Ask, Claimed, Core, End, Walker, go_on, refusal_end};
-use msb_values::{List, NoMemory};
-use result_cache::{RequestKey, RequestResult, RunId};
+use build_scheduler::{Answer, Ask, Core, End, Reply, Walker, go_on};
+use msb_values::NoMemory;
 
 /// What becomes of the request with the node.
 #[derive(Drop)]
@@ -133,17 +131,17 @@ fn hand_out<W: Walker>(core: &mut Core<W>, place: &mut W::Place, id: u64)
 fn work<W: Walker>(core: &mut Core<W>, place: &mut W::Place, id: u64, walk: W, answer: Answer)
     requires running { core.old.end ≡ None }
     requires out { ∥ IsOut (W.world_of core.old.world) core.old.history.events
-        core.old.table.finished id (seen_by W.world W.position W.asked W.learnt walk) answer ∥₁ }
+        core.old.table.finished id (W.seen walk) answer ∥₁ }
     requires only { OnlyAssigned (W.world_of core.old.world) core.old.history.events id }
     requires place { W.Fits place.old (W.world_of core.old.world) }
     ensures world { W.world_of core.new.world ≡ W.world_of core.old.world }
     ensures drives { Drives (W.world_of core.old.world) core.old.history.events
         core.new.history.events }
     ensures free { IsFree (W.world_of core.old.world) core.new.history.events core.new.end }
-    ensures uses { UnlessMemory core.new.end
-        ∥ Uses (W.world_of core.old.world) core.old.history.events core.new.history.events
-        (W.used place.old ++ due (W.world_of core.old.world) core.old.table.finished
-        (seen_by W.world W.position W.asked W.learnt walk) answer) (W.used place.new) ∥₁ }
+    ensures uses { UnlessMemory core.new.end ∥ Uses (W.world_of core.old.world)
+        core.old.history.events core.new.history.events (W.used place.old
+        ++ due (W.world_of core.old.world) core.old.table.finished (W.seen walk) answer)
+        (W.used place.new) ∥₁ }
     ensures front { IsPrefix (W.used place.old) (W.used place.new) }
     ensures place { W.Fits place.new (W.world_of core.old.world) }
     ensures lent { W.lent place.new ≡ W.lent place.old }
@@ -165,22 +163,21 @@ fn step<W: Walker>(
 ) -> Turn<W>
     requires running { core.old.end ≡ None }
     requires out { ∥ IsOut (W.world_of core.old.world) core.old.history.events
-        core.old.table.finished id (seen_by W.world W.position W.asked W.learnt walk) answer ∥₁ }
+        core.old.table.finished id (W.seen walk) answer ∥₁ }
     requires only { OnlyAssigned (W.world_of core.old.world) core.old.history.events id }
     requires place { W.Fits place.old (W.world_of core.old.world) }
     ensures world { W.world_of core.new.world ≡ W.world_of core.old.world }
     ensures drives { Drives (W.world_of core.old.world) core.old.history.events
         core.new.history.events }
-    ensures turn { IsTurn (seen_by W.world W.position W.asked W.learnt) (W.world_of core.old.world)
-        core.new.history.events core.new.table.finished core.new.end id result }
+    ensures turn { IsTurn W.seen (W.world_of core.old.world) core.new.history.events
+        core.new.table.finished core.new.end id result }
     ensures grows { HasGrown core.old.history.events core.new.history.events result }
     ensures few { length core.old.history.events < 2 ^ 63 }
-    ensures uses { UnlessMemory core.new.end
-        ∥ Uses (W.world_of core.old.world) core.old.history.events core.new.history.events
-        (W.used place.old ++ due (W.world_of core.old.world) core.old.table.finished
-        (seen_by W.world W.position W.asked W.learnt walk) answer)
-        (W.used place.new ++ due_in (seen_by W.world W.position W.asked W.learnt)
-        (W.world_of core.old.world) core.new.table.finished result) ∥₁ }
+    ensures uses { UnlessMemory core.new.end ∥ Uses (W.world_of core.old.world)
+        core.old.history.events core.new.history.events (W.used place.old
+        ++ due (W.world_of core.old.world) core.old.table.finished (W.seen walk) answer)
+        (W.used place.new ++ due_in W.seen (W.world_of core.old.world) core.new.table.finished
+        result) ∥₁ }
     ensures front { IsPrefix (W.used place.old) (W.used place.new) }
     ensures place { W.Fits place.new (W.world_of core.old.world) }
     ensures lent { W.lent place.new ≡ W.lent place.old }
@@ -201,106 +198,30 @@ fn few_events<W: Walker>(core: &Core<W>)
     let _events = core.history();
 }
 
-/// Answers what the request with the node asks.
+/// Answers what the request with the node asks. Want of memory ends the build.
 fn answer_ask<W: Walker>(core: &mut Core<W>, id: u64, walk: W, ask: Ask) -> Turn<W>
     requires running { core.old.end ≡ None }
     requires own { ∥ IsOwn (W.world_of core.old.world) core.old.history.events
-        core.old.table.finished id (seen_by W.world W.position W.asked W.learnt walk) ∥₁ }
-    requires asks { ask_of (W.position walk) ≡ ask }
+        core.old.table.finished id (W.seen walk) ∥₁ }
+    requires asks { ask_of (W.seen walk).position ≡ ask }
     requires only { OnlyAssigned (W.world_of core.old.world) core.old.history.events id }
     ensures world { W.world_of core.new.world ≡ W.world_of core.old.world }
     ensures drives { Drives (W.world_of core.old.world) core.old.history.events
         core.new.history.events }
-    ensures turn { IsTurn (seen_by W.world W.position W.asked W.learnt) (W.world_of core.old.world)
-        core.new.history.events core.new.table.finished core.new.end id result }
+    ensures turn { IsTurn W.seen (W.world_of core.old.world) core.new.history.events
+        core.new.table.finished core.new.end id result }
     ensures grows { HasGrown core.old.history.events core.new.history.events result }
     ensures uses { ∥ Uses (W.world_of core.old.world) core.old.history.events
-        core.new.history.events []
-        (due_in (seen_by W.world W.position W.asked W.learnt) (W.world_of core.old.world)
+        core.new.history.events [] (due_in W.seen (W.world_of core.old.world)
         core.new.table.finished result) ∥₁ }
 {
-    match ask {
-        Ask::Want(run) => claim(core, id, walk, &run),
-        Ask::Call(calls) => call(core, id, walk, calls),
-        Ask::Finished(run, made) => {
-            core.result(id, &run, made);
-            Turn::GoesOn(walk, Answer::Use)
-        }
-        Ask::Done(told) => {
-            end_request(core, id, walk, told);
-            Turn::Over
-        }
-    }
-}
-
-/// Ends a request, and keeps how it has ended for others of its key. Where there is no memory,
-/// nothing is kept. (MSBuild task: a target is run once.)
-fn end_request<W: Walker>(core: &mut Core<W>, id: u64, walk: W, told: RequestResult)
-    requires running { core.old.end ≡ None }
-    requires own { ∥ IsOwn (W.world_of core.old.world) core.old.history.events
-        core.old.table.finished id (seen_by W.world W.position W.asked W.learnt walk) ∥₁ }
-    requires asks { ask_of (W.position walk) ≡ IsOver told }
-    requires only { OnlyAssigned (W.world_of core.old.world) core.old.history.events id }
-    ensures world { W.world_of core.new.world ≡ W.world_of core.old.world }
-    ensures drives { Drives (W.world_of core.old.world)
-        core.old.history.events core.new.history.events }
-    ensures free { IsFree (W.world_of core.old.world) core.new.history.events core.new.end }
-    ensures uses { ∥ Uses (W.world_of core.old.world)
-        core.old.history.events core.new.history.events [] [] ∥₁ }
-{
-    let _left = core.end_request(id, walk, told);
-}
-
-/// Claims the run that a request wants: it goes on, or waits, or a cycle of runs ends the build.
-/// (MSBuild task: a target is run once.)
-fn claim<W: Walker>(core: &mut Core<W>, id: u64, walk: W, run: &RunId) -> Turn<W>
-    requires running { core.old.end ≡ None }
-    requires own { ∥ IsOwn (W.world_of core.old.world) core.old.history.events
-        core.old.table.finished id (seen_by W.world W.position W.asked W.learnt walk) ∥₁ }
-    requires asks { ask_of (W.position walk) ≡ Want run.now }
-    requires only { OnlyAssigned (W.world_of core.old.world) core.old.history.events id }
-    ensures world { W.world_of core.new.world ≡ W.world_of core.old.world }
-    ensures drives { Drives (W.world_of core.old.world) core.old.history.events
-        core.new.history.events }
-    ensures turn { IsTurn (seen_by W.world W.position W.asked W.learnt) (W.world_of core.old.world)
-        core.new.history.events core.new.table.finished core.new.end id result }
-    ensures grows { HasGrown core.old.history.events core.new.history.events result }
-    ensures uses { ∥ Uses (W.world_of core.old.world) core.old.history.events
-        core.new.history.events []
-        (due_in (seen_by W.world W.position W.asked W.learnt) (W.world_of core.old.world)
-        core.new.table.finished result) ∥₁ }
-{
-    match core.claim(id, walk, run) {
-        Ok(Claimed::Go(walk)) => Turn::GoesOn(walk, Answer::Go),
-        Ok(Claimed::Use(walk)) => Turn::GoesOn(walk, Answer::Use),
-        Ok(Claimed::Wait) => Turn::Over,
-        Ok(Claimed::Circular(_, runs)) => stop(core, End::Circular(runs)),
-        Err(_) => stop(core, End::NoMemory),
-    }
-}
-
-/// Makes the calls of a request, which then waits for them, or ends the build where they are
-/// refused. (MSBuild task, BuildInParallel.)
-fn call<W: Walker>(core: &mut Core<W>, id: u64, walk: W, calls: List<RequestKey>) -> Turn<W>
-    requires running { core.old.end ≡ None }
-    requires own { ∥ IsOwn (W.world_of core.old.world) core.old.history.events
-        core.old.table.finished id (seen_by W.world W.position W.asked W.learnt walk) ∥₁ }
-    requires asks { ask_of (W.position walk) ≡ Call calls }
-    requires only { OnlyAssigned (W.world_of core.old.world) core.old.history.events id }
-    ensures world { W.world_of core.new.world ≡ W.world_of core.old.world }
-    ensures drives { Drives (W.world_of core.old.world) core.old.history.events
-        core.new.history.events }
-    ensures turn { IsTurn (seen_by W.world W.position W.asked W.learnt) (W.world_of core.old.world)
-        core.new.history.events core.new.table.finished core.new.end id result }
-    ensures grows { HasGrown core.old.history.events core.new.history.events result }
-    ensures uses { ∥ Uses (W.world_of core.old.world) core.old.history.events
-        core.new.history.events []
-        (due_in (seen_by W.world W.position W.asked W.learnt) (W.world_of core.old.world)
-        core.new.table.finished result) ∥₁ }
-{
-    match core.request(id, walk, calls) {
-        Ok(()) => Turn::Over,
-        Err((_, fault)) => stop(core, refusal_end(fault)),
+    match core.answer_ask(id, walk, ask) {
+        Reply::GoesOn(walk, answer) => Turn::GoesOn(walk, answer),
+        Reply::UsesOwn(walk) => Turn::GoesOn(walk, Answer::Use),
+        Reply::Waits => Turn::Over,
+        Reply::Over(_) => Turn::Over,
+        Reply::Stopped => Turn::Over,
+        Reply::NoMemory(_) => stop(core, End::NoMemory),
     }
 }
 

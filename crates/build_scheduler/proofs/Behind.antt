@@ -281,7 +281,8 @@ module _ {W P I A : Type 0} (seen : W → Seen P I A) (w : World P I A) where
             ∙ (sym was ∙ ap (λ run. uses_of run (uses_in w log.events)) run_is)
 
   -- an event keeps it
-  pub behind-event : {log after : History} {origins asked : List Origin} {slots outs : List (Slot W)}
+  pub behind-event : {log after : History} {origins asked : List Origin}
+      {slots outs : List (Slot W)}
       {making bodies : List (Option RunId)} {table runs : TableRuns} {end told_end : Option End}
       (event : Event) →
       ∥ Shown seen w log origins slots making table end ∥₁

@@ -451,7 +451,8 @@ module _ {W P I A : Type 0} (seen : W → Seen P I A) (w : World P I A) (log aft
                     world = own.world;
                     learnt = subst (ArePartOf (seen walk).learnt) x.finished own.learnt;
                     position = ap
-                        (λ place. record { journal = p.journal; runs = p.runs; place = place }) c.is;
+                        (λ place. record { journal = p.journal; runs = p.runs; place = place })
+                        c.is;
                     asked = own.asked;
                     few = let m : (seen walk).asked
                         ≤ length log.events = own.few in omega (arith, count_of);

@@ -609,7 +609,8 @@ module _ {W P I A : Type 0} (seen : W → Seen P I A) (w : World P I A) {log : H
         begun-by = sym (unfinished-beginner x.state.table x.state.begun run finished_not)
             ∙ (ap (λ t. request_of t run) (sym x.begun) ∙ begun)
 
-        not-calling : (n : ℕ) (k : Kin) (ids : List ℕ) → kin n ≡ Some k → k.calls ≡ Some ids → n ≡ id
+        not-calling : (n : ℕ) (k : Kin) (ids : List ℕ) → kin n ≡ Some k → k.calls ≡ Some ids
+            → n ≡ id
             → ⊥
         not-calling n k ids h e d = none_some k.calls ids e
             (ap (λ (k : Kin). k.calls)
@@ -621,7 +622,8 @@ module _ {W P I A : Type 0} (seen : W → Seen P I A) (w : World P I A) {log : H
             → c.of_it.inside ≡ Some r → Needs then r run
         last-need n r c p i =
             let u = caller-calls id n (kin_of q) changed.was idle.1 p in
-            let same : u.0.of_it ≡ c.of_it = same_some (kin n) u.0.of_it c.of_it u.0.there c.there in
+            let same : u.0.of_it ≡ c.of_it = same_some (kin n) u.0.of_it c.of_it u.0.there c.there
+            in
             needs-kin then r run (record {
               caller = n;
               kin = u.0.of_it;
@@ -654,7 +656,8 @@ module _ {W P I A : Type 0} (seen : W → Seen P I A) (w : World P I A) {log : H
               child_in = o.child_in;
               child = o.of_child;
               at_child = changed.others o.child
-                  (λ d. let e : o.of_child ≡ kin_of q = same_some (kin o.child) o.of_child (kin_of q)
+                  (λ d. let e : o.of_child ≡ kin_of q = same_some (kin o.child) o.of_child
+                  (kin_of q)
                   o.child_there (subst (λ a. kin a ≡ Some (kin_of q)) (sym d) changed.was) in
                   o.busy (ap (λ (k : Kin). k.calls) e ∙ idle.0)
                   (ap (λ (k : Kin). k.waits) e ∙ idle.2)) ∙ o.child_there;
@@ -691,15 +694,18 @@ module _ {W P I A : Type 0} (seen : W → Seen P I A) (w : World P I A) {log : H
             over_is in
             let same_next : z.next ≡ m = same_some (at requests at_place) z.next m
             (subst (λ a. at requests a ≡ Some z.next) same_place z.next_is) m_is in
-            let m_calls : IsCalling m = found-calling first requests overs f c (suc at_place) at_place
+            let m_calls : IsCalling m = found-calling first requests overs f c (suc at_place)
+            at_place
             m (omega arith) m_is in
             let a = over n m (subst (CallsOver origins waiting_ones n) same_next z.needs) m_calls in
             let inside_m = making-inside m other made in
-            let other_is : a.other ≡ other = one-run m inside_m.0 other a.other inside_m.1 inside_m.2
+            let other_is : a.other ≡ other = one-run m inside_m.0 other a.other inside_m.1
+            inside_m.2
             (held-open a.child a.of_child a.other a.child_there a.holds_it) a.begun_by in (
               subst (λ t. Needs then r t) other_is (over-need n m r k h j a),
               found-chain first
-                  requests overs f p c runs at_place m other inside_m.0 m_is rest inside_m.1 inside_m.2,
+                  requests overs f p c runs at_place m other inside_m.0 m_is rest inside_m.1
+                  inside_m.2,
             )
 
         -- where the request that has begun the run is found, the wait would close a cycle
@@ -721,7 +727,8 @@ module _ {W P I A : Type 0} (seen : W → Seen P I A) (w : World P I A) {log : H
             beginner-open = beginner-begun x.state.begun run by begun-by
 
         -- by old needs only those are reached that are found
-        reached-one : (requests : List ℕ) → AreApart origins waiting_ones by requests → (s t : RunId)
+        reached-one : (requests : List ℕ) → AreApart origins waiting_ones by requests
+            → (s t : RunId)
             → NeedOf kin s t → (m : ℕ) → beginner x.state.begun t ≡ Some m → among m requests ≡ true
             → (n : ℕ) × (beginner x.state.begun s ≡ Some n) × (among n requests ≡ true)
         reached-one requests a s t d m b h =
@@ -747,7 +754,8 @@ module _ {W P I A : Type 0} (seen : W → Seen P I A) (w : World P I A) {log : H
             → among m requests ≡ true →
             (n : ℕ) × (beginner x.state.begun s ≡ Some n) × (among n requests ≡ true)
         reached requests a (last_one {r = s} {t = t} d) m b h = reached-one requests a s t d m b h
-        reached requests a (step_on {r = s} {t = t} {u = u} d p) m b h = let l = reached requests a p
+        reached requests a (step_on {r = s} {t = t} {u = u} d p) m b h = let l = reached requests a
+            p
             m b h in reached-one requests a s t d l.0 l.1 l.2
 
         -- where it is not found, the wait closes none
@@ -764,11 +772,13 @@ module _ {W P I A : Type 0} (seen : W → Seen P I A) (w : World P I A) {log : H
                   let called : caller_at origins id
                   ≡ Some o.1.caller = kin-caller id o.1.caller (kin_of q) changed.was o.1.called
                   in
-                  let inside = inside-open x.state law o.1.caller o.1.kin o.0 o.1.there o.1.inside in
+                  let inside = inside-open x.state law o.1.caller o.1.kin o.0 o.1.there o.1.inside
+                  in
                   let there = starts o.1.caller called in
                   elim o.2 [
                     | inl e ↦ contra o.1.caller (ap (beginner x.state.begun) e ∙ inside.1) there
-                    | inr l ↦ let z = reached requests a l o.1.caller inside.1 there in contra z.0 z.1
+                    | inr l ↦ let z = reached requests a l o.1.caller inside.1 there in contra z.0
+                        z.1
                         z.2
                   ]
             ]

@@ -30,6 +30,7 @@ pub mod Passing
 pub mod ReadyRequests
 pub mod Refusing
 pub mod Repeating
+pub mod Replying
 pub mod Retiring
 pub mod RisingNumbers
 pub mod Rooms

@@ -183,7 +183,8 @@ module _ (origins : List Origin) (place : ℕ) where
     callers = λ i caller h. absurd (let a : None ≡ Some caller = h in cc);
     all_there = λ child caller i c.
         elim i [
-          | inl p ↦ none_some (caller_at origins child) caller c (ap (caller_at origins) (sym p) ∙ e)
+          | inl p ↦ none_some (caller_at origins child) caller c
+              (ap (caller_at origins) (sym p) ∙ e)
           | inr j ↦ absurd j
         ];
   }

@@ -136,7 +136,8 @@ module _ {P I A : Type 0} where
       result_in q.status ≡ None → result_in z.status ≡ None → ShowsEnd s end → ShowsEnd t end
   ends-put s t id q z None e m a b h = λ root r o.
       elim (at-put s.requests id z 0 root (sym (ap (λ rs. at rs 0) m) ∙ r)) [
-        | inl x ↦ not_over z.status b (subst (λ (p : RequestState P I A). IsOver p.status) (sym x.1) o)
+        | inl x ↦ not_over z.status b
+            (subst (λ (p : RequestState P I A). IsOver p.status) (sym x.1) o)
         | inr x ↦ h root x.1 o
       ]
   ends-put s t id q z (Some (Root result)) e m a b h =

@@ -358,7 +358,8 @@ pub resumed-indexed : {W : Type 0} (slots after : List (Slot W)) (ready next : N
     → Indexed after next waiting
 resumed-indexed {W} slots after ready next waiting caller id told r x = subst
     (λ (xs : List (Slot W)). Indexed xs next waiting) (sym r.is) (record {
-      listed = at-cases slots caller (Calling r.calls) r.slot (λ n o. among n next.numbers ≡ is_ready o)
+      listed = at-cases slots caller (Calling r.calls) r.slot
+          (λ n o. among n next.numbers ≡ is_ready o)
           r.was
           (r.listed caller
           ∙ (ap (λ b. (is_ready (Some r.slot) && b) || among caller ready.numbers)
@@ -369,7 +370,8 @@ resumed-indexed {W} slots after ready next waiting caller id told r x = subst
           ∙ (ap (λ b. (is_ready (Some r.slot) && b) || among n ready.numbers)
           (not-equal caller n (λ q. d (sym q)))
           ∙ (neither (is_ready (Some r.slot)) (among n ready.numbers) ∙ x.listed n)));
-      room = let k = unready-put slots caller (Calling r.calls) r.slot r.was in let b : unready slots
+      room = let k = unready-put slots caller (Calling r.calls) r.slot r.was in let b : unready
+          slots
           ≤ ready.room = x.room in omega (arith, r.room);
       lists = x.lists ∙ sym (put-length slots caller r.slot);
       waits = λ by. at-cases slots caller (Calling r.calls) r.slot

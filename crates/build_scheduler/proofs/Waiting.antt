@@ -155,7 +155,8 @@ module _ {W P I A : Type 0} (seen : W → Seen P I A) (w : World P I A) {log : H
     pub circle-some : (walk : W) → IsOwn w log.events table.finished id (seen walk)
         → ask_of (seen walk).position ≡ Want run → (way : Dependent)
         → TellsDependent origins waiting_ones id by (Some way) → (runs : List RunId) →
-        IsCycleOver way.dependents.requests.keys way.dependents.needs.items making way.place run runs
+        IsCycleOver way.dependents.requests.keys way.dependents.needs.items making way.place run
+        runs
         → ClosesCycle w log.events id run runs
     circle-some walk o a way n runs r =
         let c = claims-of seen w log log id walk run x o a in
@@ -197,7 +198,8 @@ module _ {W P I A : Type 0} (seen : W → Seen P I A) (w : World P I A) {log : H
       pub ways-making : (first : ℕ) (requests over : List ℕ)
           → AreFound origins waiting_ones first requests over → caller_at origins id ≡ Some first
           → (i n : ℕ) → at requests i ≡ Some n → (r : RunId) × (at making n ≡ Some (Some r))
-      ways-making first requests over f p i n e = found-making seen w x y id v.node v.request v.place
+      ways-making first requests over f p i n e = found-making seen w x y id v.node v.request
+          v.place
           here v.is first requests over f p i n e
 
       ways-over : (first : ℕ) (requests over : List ℕ)
@@ -333,7 +335,8 @@ module _ {W P I A : Type 0} (seen : W → Seen P I A) (w : World P I A) {log : H
     waiting-bounded shown indexed = ∥∥₁_elim shown (bounded-prop waiting_ones (length origins))
         (λ x. ∥∥₁_elim indexed (bounded-prop waiting_ones (length origins)) (λ y. record {
           lists = y.lists ∙ slots-origins seen w x;
-          bounded = λ by id h. let l : id < length slots = slot-there id by (sym (y.waits by id) ∙ h)
+          bounded = λ by id h. let l : id < length slots = slot-there id by
+              (sym (y.waits by id) ∙ h)
               in let s : length slots ≡ length origins = slots-origins seen w x in omega arith;
         }))
       where
@@ -624,7 +627,8 @@ waits-indexed {W} {slots} {outs} {ready_ones} {waiting} {mid} {lists} id walk by
       listed = at-cases slots id (Assigned node) (Waiting walk by)
           (λ n o. among n ready_ones.numbers ≡ is_ready o) e (x.listed id ∙ ap is_ready e)
           (λ n d. x.listed n);
-      room = let k = unready-put slots id (Assigned node) (Waiting walk by) e in let b : unready slots
+      room = let k = unready-put slots id (Assigned node) (Waiting walk by) e in let b : unready
+          slots
           ≤ ready_ones.room = x.room in omega arith;
       lists = l.lists ∙ (h.lists ∙ (x.lists ∙ sym (put-length slots id (Waiting walk by))));
       waits = λ other. elim (same_or_not other by) [

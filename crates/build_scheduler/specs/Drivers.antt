@@ -5,14 +5,6 @@ use Rattle.build_meaning.specs.declared.event.Event.{Event}
 use Rattle.build_meaning.specs.World.{World}
 use Rattle.build_meaning.specs.State.{State}
 use Rattle.build_meaning.specs.History.{IsHistory}
-use Rattle.build_scheduler.specs.declared.request.RequestFault.{RequestFault}
-use Rattle.build_scheduler.specs.declared.request.RequestFault.TheVariants.{
-  TooDeep as IsTooDeep,
-  TooMany as AreTooMany,
-  Memory,
-}
-use Rattle.build_scheduler.specs.declared.slot.End.{End}
-use Rattle.build_scheduler.specs.declared.slot.End.TheVariants.{TooDeep, TooMany, NoMemory}
 use Rattle.build_scheduler.specs.declared.walker.Answer.{Answer}
 use Rattle.build_scheduler.specs.Position.{Position, answered}
 
@@ -23,12 +15,6 @@ IsLegal {P} {I} {A} w events = (s : State P I A) × IsHistory w events s
 -- more events came after these
 abbrev pub Continues : List Event → List Event → Type 0
 Continues before events = (more : List Event) × (events ≡ before ++ more)
-
--- how a build ends whose calls are refused
-abbrev pub refusal_end : RequestFault → End
-refusal_end (IsTooDeep keys) = TooDeep keys
-refusal_end (AreTooMany instance) = TooMany instance
-refusal_end Memory = NoMemory
 
 -- an answer takes a walk to the same place by these records and by those
 abbrev pub AreAlike : {P I A : Type 0} →

@@ -18,6 +18,7 @@ pub mod Numbers
 pub mod Own
 pub mod Position
 pub mod Ready
+pub mod Replies
 pub mod Requests
 pub mod Retired
 pub mod Shown

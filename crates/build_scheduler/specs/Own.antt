@@ -11,17 +11,14 @@ use Rattle.build_scheduler.specs.declared.walker.Answer.{Answer}
 use Rattle.build_scheduler.specs.Position.{Position, ask_of, answered, IsInTurn}
 use Rattle.build_scheduler.specs.Learnt.{ArePartOf}
 
--- what contracts see of a walk
+-- what contracts see of a walk: the world that it is of; where it stands, and what it asks there
+-- waits for its answer; how often it has asked; and the records that it has learnt, the last one
+-- first
 pub record Seen (P I A : Type 0) : Type 0 where
   pub world : World P I A
   pub position : Position P I A
   pub asked : ℕ
   pub learnt : Records
-
-abbrev pub seen_by : {W P I A : Type 0} → (W → World P I A) → (W → Position P I A) → (W → ℕ)
-    → (W → Records) → W → Seen P I A
-seen_by world position asked learnt walk = record
-    { world = world walk; position = position walk; asked = asked walk; learnt = learnt walk }
 
 -- a request that stands at a position
 abbrev pub placed : {P I A : Type 0} → Origin → Position P I A → (Place P I A → Status P I A)

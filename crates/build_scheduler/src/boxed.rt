@@ -63,13 +63,7 @@ impl<W: Walker> Walker for Boxed<W> {
 
     ghost world_of = { W.world_of };
 
-    ghost world = { W.world };
-
-    ghost position = { W.position };
-
-    ghost asked = { W.asked };
-
-    ghost learnt = { W.learnt };
+    ghost seen = { W.seen };
 
     ghost earlier = { W.earlier };
 
@@ -103,12 +97,12 @@ impl<W: Walker> Walker for Boxed<W> {
         self.walk.runs_used()
     }
 
-    fn ended(&self) -> Result<Boxed<W>, NoMemory> {
-        Boxed::new(self.alloc(), self.walk.ended()?)
+    fn copy_end(&self) -> Result<Boxed<W>, NoMemory> {
+        Boxed::new(self.alloc(), self.walk.copy_end()?)
     }
 
-    fn ended_as(&self, end: &Boxed<W>, table: &Table) -> Result<Boxed<W>, NoMemory> {
-        Boxed::new(self.alloc(), self.walk.ended_as(&end.walk, table)?)
+    fn end_as(&self, end: &Boxed<W>, table: &Table) -> Result<Boxed<W>, NoMemory> {
+        Boxed::new(self.alloc(), self.walk.end_as(&end.walk, table)?)
     }
 
     fn is_plain(&self, key: &RequestKey) -> bool {
@@ -130,12 +124,12 @@ impl<W: Walker> Walker for Boxed<W> {
 
 impl<W: Walker> Core<Boxed<W>> {
     /// The core of a root request, whose walk had no answer yet. Each walk is behind a pointer.
-    pub fn boxed(alloc: Global, root: RequestKey, walk: W) -> Result<Core<Boxed<W>>, NoMemory>
-        requires key { root ≡ (W.world walk).root }
-        requires begins { W.position walk ≡ begins (W.world walk) root [] }
-        requires asked { W.asked walk ≡ 0 }
-        requires learnt { W.learnt walk ≡ [] }
-        ensures world { IfOk result (λ core. W.world_of core.world ≡ W.world walk) }
+    pub fn new_boxed(alloc: Global, root: RequestKey, walk: W) -> Result<Core<Boxed<W>>, NoMemory>
+        requires key { root ≡ (W.seen walk).world.root }
+        requires begins { (W.seen walk).position ≡ begins (W.seen walk).world root [] }
+        requires asked { (W.seen walk).asked ≡ 0 }
+        requires learnt { (W.seen walk).learnt ≡ [] }
+        ensures world { IfOk result (λ core. W.world_of core.world ≡ (W.seen walk).world) }
         ensures history { IfOk result (λ core. core.history.events ≡ []) }
         ensures table { IfOk result (λ core. core.table.finished ≡ []) }
         ensures end { IfOk result (λ core. core.end ≡ None) }

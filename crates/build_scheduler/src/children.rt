@@ -7,7 +7,6 @@ ghost use Rattle.build_scheduler.specs.Children.{
   empty_set,
   no_run,
 };
-ghost use Rattle.build_scheduler.specs.Own.{seen_by};
 ghost use Rattle.build_scheduler.specs.Position.{ask_of};
 
 use crate::request_set::RequestSet;
@@ -23,12 +22,9 @@ pub(crate) fn child_slots<W: Walker>(
     walk: &W,
     calls: &[RequestKey],
 ) -> Result<Vec<Slot<W>>, NoMemory>
-    requires { AreAsked calls.now (ask_of (W.position walk.now)) }
-    ensures { IfOk result
-        (λ slots.
-        Paired
-        (IsChildSlot (seen_by W.world W.position W.asked W.learnt)
-        (seen_by W.world W.position W.asked W.learnt walk.now)) slots.items calls.now) }
+    requires { AreAsked calls.now (ask_of (W.seen walk.now).position) }
+    ensures { IfOk result (λ slots. Paired (IsChildSlot W.seen (W.seen walk.now)) slots.items
+        calls.now) }
 {
     let mut slots = Vec::new(alloc);
     for key in calls {

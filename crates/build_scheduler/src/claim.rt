@@ -26,7 +26,7 @@ ghost use Rattle.build_scheduler.specs.declared.walker.Ask.TheVariants.{Want};
 ghost use Rattle.build_scheduler.specs.declared.walker.Answer.TheVariants.{Go as Goes, Use as Uses};
 ghost use Rattle.build_scheduler.specs.Claims.{IsClosingCycle, IsClaimed};
 ghost use Rattle.build_scheduler.specs.Numbers.{among};
-ghost use Rattle.build_scheduler.specs.Own.{IsOut, IsOwn, seen_by};
+ghost use Rattle.build_scheduler.specs.Own.{IsOut, IsOwn};
 ghost use Rattle.build_scheduler.specs.Position.{ask_of};
 ghost use Rattle.build_scheduler.specs.Shown.{HaveNumbers, IsListed, numbers_of, room_of};
 
@@ -55,18 +55,17 @@ pub enum Claimed<W> {
 impl<W: Walker> Core<W> {
     /// Claims the run that a request with a node wants. Where there is no memory, the walk is
     /// handed back, and nothing has changed. (MSBuild task: a target is run once.)
-    pub fn claim(&mut self, id: u64, walk: W, run: &RunId) -> Result<Claimed<W>, W>
+    pub(crate) fn claim(&mut self, id: u64, walk: W, run: &RunId) -> Result<Claimed<W>, W>
         requires running { self.old.end ≡ None }
         requires own { ∥ IsOwn (W.world_of self.old.world) self.old.history.events
-            self.old.table.finished id (seen_by W.world W.position W.asked W.learnt walk) ∥₁ }
-        requires asks { ask_of (W.position walk) ≡ Want run.now }
+            self.old.table.finished id (W.seen walk) ∥₁ }
+        requires asks { ask_of (W.seen walk).position ≡ Want run.now }
         ensures world { W.world_of self.new.world ≡ W.world_of self.old.world }
         ensures table { self.new.table.finished ≡ self.old.table.finished }
         ensures end { self.new.end ≡ self.old.end }
         ensures nodes { self.new.history.nodes ≡ self.old.history.nodes }
-        ensures claimed { IsClaimed (seen_by W.world W.position W.asked W.learnt)
-            (W.world_of self.old.world) self.old.history.events self.new.history.events
-            self.new.table.finished id run.now walk result }
+        ensures claimed { IsClaimed W.seen (W.world_of self.old.world) self.old.history.events
+            self.new.history.events self.new.table.finished id run.now walk result }
     {
         match self.table.find(run) {
             Found::Absent => self.go(id, walk, run),
@@ -78,17 +77,16 @@ impl<W: Walker> Core<W> {
     fn go(&mut self, id: u64, walk: W, run: &RunId) -> Result<Claimed<W>, W>
         requires running { self.old.end ≡ None }
         requires own { ∥ IsOwn (W.world_of self.old.world) self.old.history.events
-            self.old.table.finished id (seen_by W.world W.position W.asked W.learnt walk) ∥₁ }
-        requires asks { ask_of (W.position walk) ≡ Want run.now }
+            self.old.table.finished id (W.seen walk) ∥₁ }
+        requires asks { ask_of (W.seen walk).position ≡ Want run.now }
         requires unfinished { found self.old.table.finished run.now ≡ None }
         requires unbegun { request_of self.old.table.begun run.now ≡ None }
         ensures world { W.world_of self.new.world ≡ W.world_of self.old.world }
         ensures table { self.new.table.finished ≡ self.old.table.finished }
         ensures end { self.new.end ≡ self.old.end }
         ensures nodes { self.new.history.nodes ≡ self.old.history.nodes }
-        ensures claimed { IsClaimed (seen_by W.world W.position W.asked W.learnt)
-            (W.world_of self.old.world) self.old.history.events self.new.history.events
-            self.new.table.finished id run.now walk result }
+        ensures claimed { IsClaimed W.seen (W.world_of self.old.world) self.old.history.events
+            self.new.history.events self.new.table.finished id run.now walk result }
     {
         match self.begin(id, &walk, run) {
             Ok(()) => Ok(Claimed::Go(walk)),
@@ -100,8 +98,8 @@ impl<W: Walker> Core<W> {
     fn begin(&mut self, id: u64, walk: &W, run: &RunId) -> Result<(), NoMemory>
         requires running { self.old.end ≡ None }
         requires own { ∥ IsOwn (W.world_of self.old.world) self.old.history.events
-            self.old.table.finished id (seen_by W.world W.position W.asked W.learnt walk.now) ∥₁ }
-        requires asks { ask_of (W.position walk.now) ≡ Want run.now }
+            self.old.table.finished id (W.seen walk.now) ∥₁ }
+        requires asks { ask_of (W.seen walk.now).position ≡ Want run.now }
         requires unfinished { found self.old.table.finished run.now ≡ None }
         requires unbegun { request_of self.old.table.begun run.now ≡ None }
         ensures world { W.world_of self.new.world ≡ W.world_of self.old.world }
@@ -110,15 +108,14 @@ impl<W: Walker> Core<W> {
         ensures nodes { self.new.history.nodes ≡ self.old.history.nodes }
         ensures history { OnOk result (self.new.history.events
             ≡ self.old.history.events ++ Claim id run.now Begins ∷ []) }
-        ensures out { OnOk result
-            ∥ IsOut (W.world_of self.old.world) self.new.history.events self.new.table.finished id
-            (seen_by W.world W.position W.asked W.learnt walk.now) Goes ∥₁ }
+        ensures out { OnOk result ∥ IsOut (W.world_of self.old.world) self.new.history.events
+            self.new.table.finished id (W.seen walk.now) Goes ∥₁ }
         ensures err { OnErr result (self.new.history.events ≡ self.old.history.events) }
     {
-        let (claimed, made) = begin_room(&mut self.history, run)?;
+        let (claimed, begun) = begin_room(&mut self.history, run)?;
         self.table.begin(run, id)?;
         self.history.push(Event::Claim(id, claimed, ClaimKind::Go));
-        put_run(&mut self.making, id, Some(made));
+        put_run(&mut self.making, id, Some(begun));
         Ok(())
     }
 
@@ -126,17 +123,16 @@ impl<W: Walker> Core<W> {
     fn wait(&mut self, id: u64, walk: W, run: &RunId, by: u64) -> Result<Claimed<W>, W>
         requires running { self.old.end ≡ None }
         requires own { ∥ IsOwn (W.world_of self.old.world) self.old.history.events
-            self.old.table.finished id (seen_by W.world W.position W.asked W.learnt walk) ∥₁ }
-        requires asks { ask_of (W.position walk) ≡ Want run.now }
+            self.old.table.finished id (W.seen walk) ∥₁ }
+        requires asks { ask_of (W.seen walk).position ≡ Want run.now }
         requires unfinished { found self.old.table.finished run.now ≡ None }
         requires begun { request_of self.old.table.begun run.now ≡ Some by }
         ensures world { W.world_of self.new.world ≡ W.world_of self.old.world }
         ensures table { self.new.table.finished ≡ self.old.table.finished }
         ensures end { self.new.end ≡ self.old.end }
         ensures nodes { self.new.history.nodes ≡ self.old.history.nodes }
-        ensures claimed { IsClaimed (seen_by W.world W.position W.asked W.learnt)
-            (W.world_of self.old.world) self.old.history.events self.new.history.events
-            self.new.table.finished id run.now walk result }
+        ensures claimed { IsClaimed W.seen (W.world_of self.old.world) self.old.history.events
+            self.new.history.events self.new.table.finished id run.now walk result }
     {
         match self.closing_cycle(id, &walk, run, by) {
             Ok(Some(runs)) => Ok(Claimed::Circular(walk, runs)),
@@ -149,8 +145,8 @@ impl<W: Walker> Core<W> {
     fn put_away(&mut self, id: u64, walk: W, run: &RunId, by: u64) -> Result<Claimed<W>, W>
         requires running { self.old.end ≡ None }
         requires own { ∥ IsOwn (W.world_of self.old.world) self.old.history.events
-            self.old.table.finished id (seen_by W.world W.position W.asked W.learnt walk) ∥₁ }
-        requires asks { ask_of (W.position walk) ≡ Want run.now }
+            self.old.table.finished id (W.seen walk) ∥₁ }
+        requires asks { ask_of (W.seen walk).position ≡ Want run.now }
         requires unfinished { found self.old.table.finished run.now ≡ None }
         requires begun { request_of self.old.table.begun run.now ≡ Some by }
         requires open { IsClosingCycle (W.world_of self.old.world) self.old.history.events id
@@ -159,9 +155,8 @@ impl<W: Walker> Core<W> {
         ensures table { self.new.table.finished ≡ self.old.table.finished }
         ensures end { self.new.end ≡ self.old.end }
         ensures nodes { self.new.history.nodes ≡ self.old.history.nodes }
-        ensures claimed { IsClaimed (seen_by W.world W.position W.asked W.learnt)
-            (W.world_of self.old.world) self.old.history.events self.new.history.events
-            self.new.table.finished id run.now walk result }
+        ensures claimed { IsClaimed W.seen (W.world_of self.old.world) self.old.history.events
+            self.new.history.events self.new.table.finished id run.now walk result }
     {
         match wait_room(&mut self.history, &mut self.waiting, run, by) {
             Ok(claimed) => {
@@ -178,16 +173,15 @@ impl<W: Walker> Core<W> {
     fn use_record(&mut self, id: u64, walk: W, run: &RunId) -> Result<Claimed<W>, W>
         requires running { self.old.end ≡ None }
         requires own { ∥ IsOwn (W.world_of self.old.world) self.old.history.events
-            self.old.table.finished id (seen_by W.world W.position W.asked W.learnt walk) ∥₁ }
-        requires asks { ask_of (W.position walk) ≡ Want run.now }
+            self.old.table.finished id (W.seen walk) ∥₁ }
+        requires asks { ask_of (W.seen walk).position ≡ Want run.now }
         requires finished { IsSome (found self.old.table.finished run.now) }
         ensures world { W.world_of self.new.world ≡ W.world_of self.old.world }
         ensures table { self.new.table.finished ≡ self.old.table.finished }
         ensures end { self.new.end ≡ self.old.end }
         ensures nodes { self.new.history.nodes ≡ self.old.history.nodes }
-        ensures claimed { IsClaimed (seen_by W.world W.position W.asked W.learnt)
-            (W.world_of self.old.world) self.old.history.events self.new.history.events
-            self.new.table.finished id run.now walk result }
+        ensures claimed { IsClaimed W.seen (W.world_of self.old.world) self.old.history.events
+            self.new.history.events self.new.table.finished id run.now walk result }
     {
         match self.take_record(id, &walk, run) {
             Ok(()) => Ok(Claimed::Use(walk)),
@@ -198,8 +192,8 @@ impl<W: Walker> Core<W> {
     fn take_record(&mut self, id: u64, walk: &W, run: &RunId) -> Result<(), NoMemory>
         requires running { self.old.end ≡ None }
         requires own { ∥ IsOwn (W.world_of self.old.world) self.old.history.events
-            self.old.table.finished id (seen_by W.world W.position W.asked W.learnt walk.now) ∥₁ }
-        requires asks { ask_of (W.position walk.now) ≡ Want run.now }
+            self.old.table.finished id (W.seen walk.now) ∥₁ }
+        requires asks { ask_of (W.seen walk.now).position ≡ Want run.now }
         requires finished { IsSome (found self.old.table.finished run.now) }
         ensures world { W.world_of self.new.world ≡ W.world_of self.old.world }
         ensures table { self.new.table.finished ≡ self.old.table.finished }
@@ -207,9 +201,8 @@ impl<W: Walker> Core<W> {
         ensures nodes { self.new.history.nodes ≡ self.old.history.nodes }
         ensures history { OnOk result (self.new.history.events
             ≡ self.old.history.events ++ Claim id run.now Takes ∷ []) }
-        ensures out { OnOk result
-            ∥ IsOut (W.world_of self.old.world) self.new.history.events self.new.table.finished id
-            (seen_by W.world W.position W.asked W.learnt walk.now) Uses ∥₁ }
+        ensures out { OnOk result ∥ IsOut (W.world_of self.old.world) self.new.history.events
+            self.new.table.finished id (W.seen walk.now) Uses ∥₁ }
         ensures err { OnErr result (self.new.history.events ≡ self.old.history.events) }
     {
         let claimed = run.copy()?;
@@ -230,9 +223,9 @@ fn begin_room(history: &mut History, run: &RunId) -> Result<(RunId, RunId), NoMe
     ensures made { IfOk result (λ runs. runs.1 ≡ run.now) }
 {
     let claimed = run.copy()?;
-    let made = run.copy()?;
+    let begun = run.copy()?;
     history.reserve(2)?;
-    Ok((claimed, made))
+    Ok((claimed, begun))
 }
 
 /// Takes room for a wait: for its event and the Assign that follows it, and in the list of those

@@ -6,7 +6,7 @@ ghost use Rattle.build_scheduler.specs.declared.walker.Ask.TheVariants.{Want};
 ghost use Rattle.build_scheduler.specs.Calls.{HasParent};
 ghost use Rattle.build_scheduler.specs.Claims.{IsClosingCycle, WouldClose};
 ghost use Rattle.build_scheduler.specs.Free.{AreFree, IsFree, NeedsNothing};
-ghost use Rattle.build_scheduler.specs.Own.{IsOwn, seen_by};
+ghost use Rattle.build_scheduler.specs.Own.{IsOwn};
 ghost use Rattle.build_scheduler.specs.Position.{ask_of};
 ghost use Rattle.build_scheduler.specs.Ready.{IsAssigned};
 
@@ -44,8 +44,8 @@ impl<W: Walker> Core<W> {
         by: u64,
     ) -> Result<Option<List<RunId>>, NoMemory>
         requires own { ∥ IsOwn (W.world_of self.now.world) self.now.history.events
-            self.now.table.finished id (seen_by W.world W.position W.asked W.learnt walk.now) ∥₁ }
-        requires asks { ask_of (W.position walk.now) ≡ Want run.now }
+            self.now.table.finished id (W.seen walk.now) ∥₁ }
+        requires asks { ask_of (W.seen walk.now).position ≡ Want run.now }
         requires unfinished { found self.now.table.finished run.now ≡ None }
         requires begun { request_of self.now.table.begun run.now ≡ Some by }
         ensures { IfOk result (λ cycle. IsClosingCycle (W.world_of self.now.world)

@@ -36,7 +36,7 @@ ghost use Rattle.build_scheduler.specs.Calls.{
 ghost use Rattle.build_scheduler.specs.HandedBack.{IsHandedBack, IsLeft};
 ghost use Rattle.build_scheduler.specs.Learnt.{AreInOrder};
 ghost use Rattle.build_scheduler.specs.Numbers.{among};
-ghost use Rattle.build_scheduler.specs.Own.{Asks, IsOwn, seen_by};
+ghost use Rattle.build_scheduler.specs.Own.{Asks, IsOwn};
 ghost use Rattle.build_scheduler.specs.Position.{ask_of};
 ghost use Rattle.build_scheduler.specs.Shown.{is_ready, one_unless};
 
@@ -52,16 +52,21 @@ impl<W: Walker> Core<W> {
     /// the build ends. The walk of the first call hands its journal to the caller, where there is
     /// memory to take it over; nothing else takes memory. Any other walk is handed back. (MSBuild
     /// task.)
-    pub fn done(&mut self, id: u64, walk: W, told: RequestResult) -> Option<W>
+    pub(crate) fn finish_request(
+        &mut self,
+        id: u64,
+        walk: W,
+        request_result: RequestResult,
+    ) -> Option<W>
         requires running { self.old.end ≡ None }
         requires own { ∥ IsOwn (W.world_of self.old.world) self.old.history.events
-            self.old.table.finished id (seen_by W.world W.position W.asked W.learnt walk) ∥₁ }
+            self.old.table.finished id (W.seen walk) ∥₁ }
         requires asks { ∥ Asks (W.world_of self.old.world) self.old.history.events id
-            (IsOver told) ∥₁ }
+            (IsOver request_result) ∥₁ }
         ensures world { W.world_of self.new.world ≡ W.world_of self.old.world }
         ensures history { self.new.history.events ≡ self.old.history.events ++ Done id ∷ [] }
         ensures table { self.new.table ≡ self.old.table }
-        ensures root { id ≡ 0 → self.new.end ≡ Some (Root told) }
+        ensures root { id ≡ 0 → self.new.end ≡ Some (Root request_result) }
         ensures others { (id ≡ 0 → ⊥) → self.new.end ≡ None }
         ensures nodes { self.new.history.nodes ≡ self.old.history.nodes }
         ensures left { IsHandedBack (W.world_of self.old.world) self.old.history.events id walk
@@ -74,11 +79,11 @@ impl<W: Walker> Core<W> {
         put_slot(&mut self.slots, id, Slot::Done);
         match parent_of(&self.origins, id) {
             None => {
-                self.end = Some(End::Root(told));
+                self.end = Some(End::Root(request_result));
                 left
             }
             Some(caller) => {
-                resume(&mut self.slots, &mut self.ready, caller, id, told);
+                resume(&mut self.slots, &mut self.ready, caller, id, request_result);
                 left
             }
         }
@@ -86,30 +91,35 @@ impl<W: Walker> Core<W> {
 
     /// Ends a request, and keeps how it has ended for others of its key. Where there is no memory,
     /// nothing is kept. The walk is handed back as by `done`. (MSBuild task: a target is run once.)
-    pub fn end_request(&mut self, id: u64, walk: W, told: RequestResult) -> Option<W>
+    pub(crate) fn end_request(
+        &mut self,
+        id: u64,
+        walk: W,
+        request_result: RequestResult,
+    ) -> Option<W>
         requires running { self.old.end ≡ None }
         requires own { ∥ IsOwn (W.world_of self.old.world) self.old.history.events
-            self.old.table.finished id (seen_by W.world W.position W.asked W.learnt walk) ∥₁ }
-        requires asks { ask_of (W.position walk) ≡ IsOver told }
+            self.old.table.finished id (W.seen walk) ∥₁ }
+        requires asks { ask_of (W.seen walk).position ≡ IsOver request_result }
         ensures world { W.world_of self.new.world ≡ W.world_of self.old.world }
         ensures history { self.new.history.events ≡ self.old.history.events ++ Done id ∷ [] }
         ensures table { self.new.table ≡ self.old.table }
-        ensures root { id ≡ 0 → self.new.end ≡ Some (Root told) }
+        ensures root { id ≡ 0 → self.new.end ≡ Some (Root request_result) }
         ensures others { (id ≡ 0 → ⊥) → self.new.end ≡ None }
         ensures nodes { self.new.history.nodes ≡ self.old.history.nodes }
         ensures left { IsHandedBack (W.world_of self.old.world) self.old.history.events id walk
             result }
     {
-        let _ = self.keep(id, &walk, &told);
-        self.done(id, walk, told)
+        let _ = self.keep(id, &walk, &request_result);
+        self.finish_request(id, walk, request_result)
     }
 
     /// Gives the journal of a request that is over to its caller, if it is the first call of one.
     fn give_journal(&mut self, id: u64, walk: W) -> Option<W>
         requires own { ∥ IsOwn (W.world_of self.old.world) self.old.history.events
-            self.old.table.finished id (seen_by W.world W.position W.asked W.learnt walk) ∥₁ }
-        requires over { ∥ ((told : Told) × Asks (W.world_of self.old.world)
-            self.old.history.events id (IsOver told)) ∥₁ }
+            self.old.table.finished id (W.seen walk) ∥₁ }
+        requires over { ∥ ((request_result : Told) × Asks (W.world_of self.old.world)
+            self.old.history.events id (IsOver request_result)) ∥₁ }
         ensures world { W.world_of self.new.world ≡ W.world_of self.old.world }
         ensures history { self.new.history ≡ self.old.history }
         ensures table { self.new.table ≡ self.old.table }
@@ -138,15 +148,16 @@ fn resume<W: Drop>(
     ready: &mut RequestSet,
     caller: u64,
     id: u64,
-    told: RequestResult,
+    request_result: RequestResult,
 )
     requires calls { HasOpen id (at slots.old.items caller) }
     requires absent { among caller ready.old.numbers ≡ false }
     requires room { 0 < ready.old.room }
-    ensures { IsResumed slots.old.items slots.new.items ready.old ready.new caller id told }
+    ensures { IsResumed slots.old.items slots.new.items ready.old ready.new caller id
+        request_result }
 {
     let calls = take_calls(slots, caller);
-    let next = calls.tell(id, told);
+    let next = calls.tell(id, request_result);
     let is_ready = next.is_ready();
     put_slot(slots, caller, next);
     if is_ready {
@@ -163,10 +174,8 @@ fn pass_journal<W: Walker>(
     call: W,
 ) -> Option<W>
     requires in_order { AreInOrder table.now.finished }
-    requires can { CanTake (seen_by W.world W.position W.asked W.learnt) table.now.finished
-        (seen_by W.world W.position W.asked W.learnt call) (at slots.old.items caller) }
-    ensures passed { IsPassed (seen_by W.world W.position W.asked W.learnt) table.now.finished
-        slots.old.items slots.new.items caller }
+    requires can { CanTake W.seen table.now.finished (W.seen call) (at slots.old.items caller) }
+    ensures passed { IsPassed W.seen table.now.finished slots.old.items slots.new.items caller }
     ensures left { IsLeft (at slots.old.items caller) id call result }
 {
     let mut calls = take_calls(slots, caller);

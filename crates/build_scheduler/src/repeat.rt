@@ -56,7 +56,7 @@ ghost use Rattle.build_scheduler.specs.Kept.{
   uses_one,
 };
 ghost use Rattle.build_scheduler.specs.KeptEnds.{IsWanted};
-ghost use Rattle.build_scheduler.specs.Own.{IsOwn, seen_by};
+ghost use Rattle.build_scheduler.specs.Own.{IsOwn};
 ghost use Rattle.build_scheduler.specs.Position.{HasEnded, ask_of};
 ghost use Rattle.build_scheduler.specs.Ready.{IsReady};
 ghost use Rattle.build_scheduler.specs.Shown.{is_ready};
@@ -104,42 +104,48 @@ impl<W: Walker> Core<W> {
     /// Keeps how a request ends that is with a node and asks to be over, exactly where another
     /// request of its instance is not done, and this one began with nothing or is plain. Where
     /// there is no memory, nothing changes. (MSBuild task: a target is run once.)
-    pub fn keep(&mut self, id: u64, walk: &W, told: &RequestResult) -> Result<(), NoMemory>
+    pub fn keep(
+        &mut self,
+        id: u64,
+        walk: &W,
+        request_result: &RequestResult,
+    ) -> Result<(), NoMemory>
         requires own { ∥ IsOwn (W.world_of self.old.world) self.old.history.events
-            self.old.table.finished id (seen_by W.world W.position W.asked W.learnt walk.now) ∥₁ }
-        requires asks { ask_of (W.position walk.now) ≡ IsOver told.now }
+            self.old.table.finished id (W.seen walk.now) ∥₁ }
+        requires asks { ask_of (W.seen walk.now).position ≡ IsOver request_result.now }
         ensures world { W.world_of self.new.world ≡ W.world_of self.old.world }
         ensures history { self.new.history ≡ self.old.history }
         ensures table { self.new.table ≡ self.old.table }
         ensures end { self.new.end ≡ self.old.end }
-        ensures keeps { OnOk result (IsKeeping (seen_by W.world W.position W.asked W.learnt)
-            self.old.slots.items self.old.origins.items self.old.kept self.new.kept id walk.now
-            (W.plain_for walk.now) told.now) }
+        ensures keeps { OnOk result (IsKeeping W.seen self.old.slots.items self.old.origins.items
+            self.old.kept self.new.kept id walk.now (W.plain_for walk.now) request_result.now) }
         ensures err { OnErr result (self.new.kept ≡ self.old.kept) }
     {
-        if let Some(kept) = self.end_of(id, walk, told)? {
+        if let Some(kept) = self.end_of(id, walk, request_result)? {
             self.kept.put(kept);
         }
         Ok(())
     }
 
     /// How a request ends that is with a node and asks to be over, where that may serve others.
-    fn end_of(&self, id: u64, walk: &W, told: &RequestResult) -> Result<Option<Kept<W>>, NoMemory>
+    fn end_of(
+        &self,
+        id: u64,
+        walk: &W,
+        request_result: &RequestResult,
+    ) -> Result<Option<Kept<W>>, NoMemory>
         requires there { id < length self.now.origins.items }
-        requires asked { 0 < W.asked walk.now }
-        requires over { HasEnded (ask_of (W.position walk.now)) }
-        ensures none { IfOk result (λ end. IfNone end
-            (MayServe (seen_by W.world W.position W.asked W.learnt) self.now.slots.items
+        requires asked { 0 < (W.seen walk.now).asked }
+        requires over { HasEnded (ask_of (W.seen walk.now).position) }
+        ensures none { IfOk result (λ end. IfNone end (MayServe W.seen self.now.slots.items
             self.now.origins.items self.now.kept id (W.plain_for walk.now) → ⊥)) }
-        ensures serves { IfOk result (λ end. OnSome end
-            (MayServe (seen_by W.world W.position W.asked W.learnt) self.now.slots.items
+        ensures serves { IfOk result (λ end. OnSome end (MayServe W.seen self.now.slots.items
             self.now.origins.items self.now.kept id (W.plain_for walk.now))) }
-        ensures is { IfOk result (λ end. IfSome end (λ end.
-            IsEndOf (seen_by W.world W.position W.asked W.learnt) self.now.slots.items
-            self.now.origins.items id walk.now (W.plain_for walk.now) told.now end)) }
-        ensures plain { IfOk result (λ end. IfSome end (λ end. end.plain ≡ true →
-            (origin : Origin) → at self.now.origins.items id ≡ Some origin →
-            IsPlain (W.world walk.now) origin.key)) }
+        ensures is { IfOk result (λ end. IfSome end (λ end. IsEndOf W.seen self.now.slots.items
+            self.now.origins.items id walk.now (W.plain_for walk.now) request_result.now end)) }
+        ensures plain { IfOk result (λ end. IfSome end (λ end. end.plain ≡ true → (origin : Origin)
+            → at self.now.origins.items id ≡ Some origin → IsPlain (W.seen walk.now).world
+            origin.key)) }
     {
         let from_nothing = self.began_with_nothing(id);
         let plain = self.is_plain(id, walk);
@@ -148,8 +154,8 @@ impl<W: Walker> Core<W> {
         }
         Ok(Some(Kept {
             id,
-            result: told.copy()?,
-            walk: walk.ended()?,
+            result: request_result.copy()?,
+            walk: walk.copy_end()?,
             from_nothing,
             plain,
         }))
@@ -179,9 +185,8 @@ impl<W: Walker> Core<W> {
         ensures repeated { IfOk result (λ repeated. IsRepeated (W.world_of self.old.world)
             self.old.table.finished self.old.history.events self.new.history.events id node
             repeated) }
-        ensures exact { IfOk result (λ repeated. IsTrue repeated
-            ↔ IsServed (seen_by W.world W.position W.asked W.learnt) self.old.slots.items
-            self.old.origins.items self.old.making.items self.old.kept id) }
+        ensures exact { IfOk result (λ repeated. IsTrue repeated ↔ IsServed W.seen
+            self.old.slots.items self.old.origins.items self.old.making.items self.old.kept id) }
         ensures err { OnErr result (self.new.history.events ≡ self.old.history.events) }
     {
         match self.end_for(id)? {
@@ -196,18 +201,17 @@ impl<W: Walker> Core<W> {
     /// How a ready request ends that is over at once, if it is one.
     fn end_for(&self, id: u64) -> Result<Option<AtOnce<W>>, NoMemory>
         requires ready { ∥ IsReady (W.world_of self.now.world) self.now.history.events id ∥₁ }
-        ensures so { IfOk result (λ end. IfSome end (λ end.
-            ∥ IsAtOnce (seen_by W.world W.position W.asked W.learnt) (W.world_of self.now.world)
-            self.now.table.finished self.now.history.events id end ∥₁)) }
-        ensures exact { IfOk result (λ end. IsSome end
-            ↔ IsServed (seen_by W.world W.position W.asked W.learnt) self.now.slots.items
+        ensures so { IfOk result (λ end. IfSome end (λ end. ∥ IsAtOnce W.seen
+            (W.world_of self.now.world) self.now.table.finished self.now.history.events id
+            end ∥₁)) }
+        ensures exact { IfOk result (λ end. IsSome end ↔ IsServed W.seen self.now.slots.items
             self.now.origins.items self.now.making.items self.now.kept id) }
     {
-        let Some(kept) = self.kept_for(id) else {
+        let Some(kept) = self.kept_end(id) else {
             return Ok(None);
         };
         let alloc = *self.slots.allocator();
-        let left = left_of(&self.slots, id, kept.result.runs.as_slice());
+        let left = runs_left(&self.slots, id, kept.result.runs.as_slice());
         Ok(Some(AtOnce {
             claims: names(alloc, left)?,
             told: kept.result.copy()?,
@@ -219,24 +223,23 @@ impl<W: Walker> Core<W> {
     /// nothing, it has the kept journal.
     fn walk_at(&self, id: u64, kept: &Kept<W>) -> Result<W, NoMemory>
         requires ready { ∥ IsReady (W.world_of self.now.world) self.now.history.events id ∥₁ }
-        requires serves { Serves (seen_by W.world W.position W.asked W.learnt)
-            self.now.slots.items self.now.origins.items self.now.making.items self.now.kept
-            id kept.now }
-        ensures { IfOk result (λ walk. ∥ IsCome (seen_by W.world W.position W.asked W.learnt)
-            self.now.table.finished (at self.now.slots.items id) kept.now walk ∥₁) }
+        requires serves { Serves W.seen self.now.slots.items self.now.origins.items
+            self.now.making.items self.now.kept id kept.now }
+        ensures { IfOk result (λ walk. ∥ IsCome W.seen self.now.table.finished
+            (at self.now.slots.items id) kept.now walk ∥₁) }
     {
         if kept.from_nothing && self.began_with_nothing(id) {
-            return Ok(kept.walk.ended()?);
+            return Ok(kept.walk.copy_end()?);
         }
-        Ok(ready_walk(&self.slots, id).ended_as(&kept.walk, &self.table)?)
+        Ok(ready_walk(&self.slots, id).end_as(&kept.walk, &self.table)?)
     }
 
     /// Ends a ready request at once. Where there is no memory, no event has come.
     fn end_at_once(&mut self, id: u64, node: u32, end: AtOnce<W>) -> Result<(), NoMemory>
         requires running { self.old.end ≡ None }
         requires ready { ∥ IsReady (W.world_of self.old.world) self.old.history.events id ∥₁ }
-        requires comes { ∥ IsAtOnce (seen_by W.world W.position W.asked W.learnt)
-            (W.world_of self.old.world) self.old.table.finished self.old.history.events id end ∥₁ }
+        requires comes { ∥ IsAtOnce W.seen (W.world_of self.old.world) self.old.table.finished
+            self.old.history.events id end ∥₁ }
         ensures world { W.world_of self.new.world ≡ W.world_of self.old.world }
         ensures table { self.new.table ≡ self.old.table }
         ensures end { self.new.end ≡ self.old.end }
@@ -248,21 +251,19 @@ impl<W: Walker> Core<W> {
         let (claims, told, walk) = end.parts();
         self.history.reserve(claims.len())?;
         let before = self.use_all(id, node, claims);
-        let left = self.done(id, walk, told);
+        let left = self.finish_request(id, walk, told);
         self.released.put_walk(Some(before));
         self.released.put_walk(left);
         Ok(())
     }
 
     /// How a request has ended that serves this one, if one does.
-    fn kept_for(&self, id: u64) -> Option<&Kept<W>>
+    fn kept_end(&self, id: u64) -> Option<&Kept<W>>
         requires there { id < length self.now.origins.items }
-        ensures so { IfSome result (λ kept. Serves (seen_by W.world W.position W.asked W.learnt)
-            self.now.slots.items self.now.origins.items self.now.making.items self.now.kept
-            id kept.now) }
-        ensures exact { IfNone result (IsServed (seen_by W.world W.position W.asked W.learnt)
-            self.now.slots.items self.now.origins.items self.now.making.items self.now.kept
-            id → ⊥) }
+        ensures so { IfSome result (λ kept. Serves W.seen self.now.slots.items
+            self.now.origins.items self.now.making.items self.now.kept id kept.now) }
+        ensures exact { IfNone result (IsServed W.seen self.now.slots.items self.now.origins.items
+            self.now.making.items self.now.kept id → ⊥) }
     {
         if !self.is_called(id) || self.making[id as usize].is_some() {
             return None;
@@ -295,8 +296,8 @@ impl<W: Walker> Core<W> {
     /// Whether an end is plain, or its request began with nothing as this one does.
     fn is_alike(&self, id: u64, kept: &Kept<W>) -> bool
         requires there { id < length self.now.origins.items }
-        ensures { IsTrue result ↔ IsAlike (seen_by W.world W.position W.asked W.learnt)
-            self.now.slots.items self.now.origins.items id kept.now }
+        ensures { IsTrue result ↔ IsAlike W.seen self.now.slots.items self.now.origins.items id
+            kept.now }
     {
         kept.plain || (kept.from_nothing && self.began_with_nothing(id))
     }
@@ -325,8 +326,8 @@ impl<W: Walker> Core<W> {
         requires there { id < length self.now.origins.items }
         ensures exact { IsTrue result
             ↔ IsKnownPlain (W.plain_for walk.now) self.now.origins.items id }
-        ensures plain { result ≡ true → (origin : Origin) →
-            at self.now.origins.items id ≡ Some origin → IsPlain (W.world walk.now) origin.key }
+        ensures plain { result ≡ true → (origin : Origin) → at self.now.origins.items id
+            ≡ Some origin → IsPlain (W.seen walk.now).world origin.key }
     {
         walk.is_plain(&self.origins[id as usize].key)
     }
@@ -335,8 +336,8 @@ impl<W: Walker> Core<W> {
     /// caller has.
     fn began_with_nothing(&self, id: u64) -> bool
         requires there { id < length self.now.origins.items }
-        ensures { IsTrue result ↔ BeganWithNothing (seen_by W.world W.position W.asked W.learnt)
-            self.now.slots.items self.now.origins.items id }
+        ensures { IsTrue result ↔ BeganWithNothing W.seen self.now.slots.items
+            self.now.origins.items id }
     {
         match self.origins[id as usize].parent {
             Some(caller) => knows_nothing(&self.slots[caller as usize]),
@@ -347,8 +348,7 @@ impl<W: Walker> Core<W> {
 
 /// Whether the journal of a caller is empty.
 fn knows_nothing<W: Walker>(slot: &Slot<W>) -> bool
-    ensures { IsTrue result
-        ↔ KnowsNothing (seen_by W.world W.position W.asked W.learnt) (Some slot.now) }
+    ensures { IsTrue result ↔ KnowsNothing W.seen (Some slot.now) }
 {
     match slot {
         Slot::Calling(calls) => calls.walk.knows_nothing(),
@@ -368,12 +368,10 @@ fn ready_walk<W: Walker>(slots: &Vec<Slot<W>>, id: u64) -> &W
 }
 
 /// What is left to a ready request, which is between two runs, of all runs that it makes or uses.
-fn left_of<'a, W: Walker>(slots: &Vec<Slot<W>>, id: u64, runs: &'a [RunRef]) -> &'a [RunRef]
+fn runs_left<'a, W: Walker>(slots: &Vec<Slot<W>>, id: u64, runs: &'a [RunRef]) -> &'a [RunRef]
     requires ready { is_ready (at slots.now.items id) ≡ true }
-    requires few { used_in (seen_by W.world W.position W.asked W.learnt) (at slots.now.items id)
-        ≤ length runs.now }
-    ensures { result.now ≡ drop (used_in (seen_by W.world W.position W.asked W.learnt)
-        (at slots.now.items id)) runs.now }
+    requires few { used_in W.seen (at slots.now.items id) ≤ length runs.now }
+    ensures { result.now ≡ drop (used_in W.seen (at slots.now.items id)) runs.now }
 {
     match &slots[id as usize] {
         Slot::Ready(walk, answer) => rest_of(&runs[walk.runs_used()..], answer),

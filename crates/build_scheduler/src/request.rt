@@ -46,7 +46,7 @@ ghost use Rattle.build_scheduler.specs.Chain.{
 };
 ghost use Rattle.build_scheduler.specs.Entered.{AreEntered, AreNew};
 ghost use Rattle.build_scheduler.specs.Numbers.{among};
-ghost use Rattle.build_scheduler.specs.Own.{IsOwn, seen_by};
+ghost use Rattle.build_scheduler.specs.Own.{IsOwn};
 ghost use Rattle.build_scheduler.specs.Position.{ask_of};
 ghost use Rattle.build_scheduler.specs.Requests.{HasSpare, IsRefused, IsRequested};
 ghost use Rattle.build_scheduler.specs.Shown.{AreNested, unready};
@@ -149,7 +149,7 @@ impl<W: Walker> Core<W> {
     /// Makes the requests that the body of a request with a node calls at once: they are ready, and
     /// its walk is put away until all of them are done. Where they are refused, the walk is handed
     /// back, and nothing has changed. (MSBuild task, BuildInParallel.)
-    pub fn request(
+    pub(crate) fn request(
         &mut self,
         id: u64,
         walk: W,
@@ -157,8 +157,8 @@ impl<W: Walker> Core<W> {
     ) -> Result<(), (W, RequestFault)>
         requires running { self.old.end ≡ None }
         requires own { ∥ IsOwn (W.world_of self.old.world) self.old.history.events
-            self.old.table.finished id (seen_by W.world W.position W.asked W.learnt walk) ∥₁ }
-        requires asks { ask_of (W.position walk) ≡ Call calls }
+            self.old.table.finished id (W.seen walk) ∥₁ }
+        requires asks { ask_of (W.seen walk).position ≡ Call calls }
         ensures world { W.world_of self.new.world ≡ W.world_of self.old.world }
         ensures table { self.new.table ≡ self.old.table }
         ensures end { self.new.end ≡ self.old.end }
@@ -180,8 +180,8 @@ impl<W: Walker> Core<W> {
         calls: &[RequestKey],
     ) -> Result<Children<W>, RequestFault>
         requires own { ∥ IsOwn (W.world_of self.old.world) self.old.history.events
-            self.old.table.finished id (seen_by W.world W.position W.asked W.learnt walk.now) ∥₁ }
-        requires asks { ask_of (W.position walk.now) ≡ Call calls.now }
+            self.old.table.finished id (W.seen walk.now) ∥₁ }
+        requires asks { ask_of (W.seen walk.now).position ≡ Call calls.now }
         ensures world { W.world_of self.new.world ≡ W.world_of self.old.world }
         ensures table { self.new.table ≡ self.old.table }
         ensures end { self.new.end ≡ self.old.end }
@@ -190,9 +190,7 @@ impl<W: Walker> Core<W> {
         ensures fault { IfErr result
             (λ fault. IsRefused (W.world_of self.old.world) self.old.history.events id calls.now
             fault) }
-        ensures children { IfOk result
-            (λ children. AreNew (seen_by W.world W.position W.asked W.learnt)
-            (seen_by W.world W.position W.asked W.learnt walk.now) id calls.now
+        ensures children { IfOk result (λ children. AreNew W.seen (W.seen walk.now) id calls.now
             self.new.origins.items children) }
         ensures origin_room { OnOk result (vec_len self.new.origins + length calls.now
             ≤ vec_capacity self.new.origins) }
@@ -217,8 +215,8 @@ impl<W: Walker> Core<W> {
     /// How many requests call each other down to the one that calls, where its calls may be nested.
     fn depth_for(&self, id: u64, walk: &W, calls: &[RequestKey]) -> Result<usize, RequestFault>
         requires own { ∥ IsOwn (W.world_of self.now.world) self.now.history.events
-            self.now.table.finished id (seen_by W.world W.position W.asked W.learnt walk.now) ∥₁ }
-        requires asks { ask_of (W.position walk.now) ≡ Call calls.now }
+            self.now.table.finished id (W.seen walk.now) ∥₁ }
+        requires asks { ask_of (W.seen walk.now).position ≡ Call calls.now }
         ensures depth { IfOk result (λ depth. HasDepth (at self.now.origins.items id) depth
             × (depth + 1 < deepest)) }
         ensures fault { IfErr result
@@ -278,11 +276,9 @@ impl<W: Walker> Core<W> {
     ) -> Result<(), (W, RequestFault)>
         requires running { self.old.end ≡ None }
         requires own { ∥ IsOwn (W.world_of self.old.world) self.old.history.events
-            self.old.table.finished id (seen_by W.world W.position W.asked W.learnt walk) ∥₁ }
-        requires asks { ask_of (W.position walk) ≡ Call calls }
-        requires children { AreNew (seen_by W.world W.position W.asked W.learnt)
-            (seen_by W.world W.position W.asked W.learnt walk) id calls self.old.origins.items
-            children }
+            self.old.table.finished id (W.seen walk) ∥₁ }
+        requires asks { ask_of (W.seen walk).position ≡ Call calls }
+        requires children { AreNew W.seen (W.seen walk) id calls self.old.origins.items children }
         requires origin_room { vec_len self.old.origins + length calls
             ≤ vec_capacity self.old.origins }
         requires slot_room { vec_len self.old.slots + length calls ≤ vec_capacity self.old.slots }
@@ -446,14 +442,11 @@ fn children_of<W: Walker>(
     depth: usize,
     calls: &[RequestKey],
 ) -> Result<Children<W>, NoMemory>
-    requires { ask_of (W.position walk.now) ≡ Call calls.now }
+    requires { ask_of (W.seen walk.now).position ≡ Call calls.now }
     ensures origins { IfOk result (λ children. children.origins.items
         ≡ map (child_origin id depth) calls.now) }
-    ensures slots { IfOk result
-        (λ children.
-        Paired
-        (IsChildSlot (seen_by W.world W.position W.asked W.learnt)
-        (seen_by W.world W.position W.asked W.learnt walk.now)) children.slots.items calls.now) }
+    ensures slots { IfOk result (λ children. Paired (IsChildSlot W.seen (W.seen walk.now))
+        children.slots.items calls.now) }
     ensures making { IfOk result (λ children. children.making.items ≡ map no_run calls.now) }
     ensures waiting { IfOk result (λ children. children.waiting.items ≡ map empty_set calls.now) }
     ensures results { IfOk result (λ children. length children.results.items ≡ length calls.now) }

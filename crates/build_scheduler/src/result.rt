@@ -21,7 +21,7 @@ ghost use Rattle.build_scheduler.specs.declared.walker.Ask.TheVariants.{Finished
 ghost use Rattle.build_scheduler.specs.declared.walker.Answer.TheVariants.{Use};
 ghost use Rattle.build_scheduler.specs.declared.slot.Slot.TheVariants.{Ready, Waiting};
 ghost use Rattle.build_scheduler.specs.Numbers.{among};
-ghost use Rattle.build_scheduler.specs.Own.{Asks, IsOut, IsOwn, seen_by};
+ghost use Rattle.build_scheduler.specs.Own.{Asks, IsOut, IsOwn};
 ghost use Rattle.build_scheduler.specs.Position.{ask_of};
 ghost use Rattle.build_scheduler.specs.Shown.{Indexed, IsWaiting, IsWoken, Listed, woken_by};
 
@@ -37,25 +37,24 @@ impl<W: Walker> Core<W> {
     /// Finishes the run whose body has come to its end, and makes every request that waits for it
     /// ready. The request that made it goes on with Use. This takes no memory. (MSBuild task: a
     /// target is run once.)
-    pub fn result(&mut self, id: u64, run: &RunId, made: RecordRef)
+    pub(crate) fn result(&mut self, id: u64, run: &RunId, run_record: RecordRef)
         requires running { self.old.end ≡ None }
         requires asks { ∥ Asks (W.world_of self.old.world) self.old.history.events id
-            (Finished run.now made) ∥₁ }
+            (Finished run.now run_record) ∥₁ }
         ensures world { W.world_of self.new.world ≡ W.world_of self.old.world }
         ensures history { self.new.history.events
             ≡ self.old.history.events ++ Result id run.now ∷ [] }
         ensures table { self.new.table.finished
-            ≡ record { run = run.now; made = made } ∷ self.old.table.finished }
+            ≡ record { run = run.now; made = run_record } ∷ self.old.table.finished }
         ensures end { self.new.end ≡ self.old.end }
         ensures nodes { self.new.history.nodes ≡ self.old.history.nodes }
-        ensures out { (walk : W)
-            → ∥ IsOwn (W.world_of self.old.world) self.old.history.events self.old.table.finished id
-            (seen_by W.world W.position W.asked W.learnt walk) ∥₁ →
-            ask_of (W.position walk) ≡ Finished run.now made →
-            ∥ IsOut (W.world_of self.new.world) self.new.history.events self.new.table.finished id
-            (seen_by W.world W.position W.asked W.learnt walk) Use ∥₁ }
+        ensures out { (walk : W) → ∥ IsOwn (W.world_of self.old.world) self.old.history.events
+            self.old.table.finished id (W.seen walk) ∥₁ → ask_of (W.seen walk).position
+            ≡ Finished run.now run_record
+            → ∥ IsOut (W.world_of self.new.world) self.new.history.events
+            self.new.table.finished id (W.seen walk) Use ∥₁ }
     {
-        self.table.finish(run, made);
+        self.table.finish(run, run_record);
         match take_run(&mut self.making, id) {
             Some(finished) => self.history.push(Event::Result(id, finished)),
             None => unreachable!(),

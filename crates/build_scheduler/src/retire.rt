@@ -3,7 +3,7 @@
 ghost use Rattle.std.specs.Prelude.{◌≡◌, ◌<◌, ◌≤◌, [], None, Some};
 ghost use Rattle.build_meaning.specs.Lists.{at};
 ghost use Rattle.build_scheduler.specs.History.{most_nodes};
-ghost use Rattle.build_scheduler.specs.Own.{IsOut, seen_by};
+ghost use Rattle.build_scheduler.specs.Own.{IsOut};
 ghost use Rattle.build_scheduler.specs.Retired.{IsRetired};
 ghost use Rattle.build_scheduler.specs.Slots.{IsWithNode};
 ghost use Rattle.build_scheduler.specs.declared.slot.Slot.TheVariants.{Assigned};
@@ -34,8 +34,7 @@ impl<W: Walker> Core<W> {
     pub fn retire(&mut self, id: u64, walk: W, answer: Answer) -> bool
         requires running { self.old.end ≡ None }
         requires out { ∥ IsOut (W.world_of self.old.world) self.old.history.events
-            self.old.table.finished id (seen_by W.world W.position W.asked W.learnt walk)
-            answer ∥₁ }
+            self.old.table.finished id (W.seen walk) answer ∥₁ }
         ensures world { W.world_of self.new.world ≡ W.world_of self.old.world }
         ensures table { self.new.table ≡ self.old.table }
         ensures nodes { self.new.history.nodes ≡ self.old.history.nodes }

@@ -22,7 +22,7 @@ ghost use Rattle.build_scheduler.specs.Ends.{IsEnd, IsStop, ShowsStop};
 ghost use Rattle.build_scheduler.specs.Instances.{AreCounted, instance_asked};
 ghost use Rattle.build_scheduler.specs.Kept.{AreKept};
 ghost use Rattle.build_scheduler.specs.Learnt.{AreInOrder};
-ghost use Rattle.build_scheduler.specs.Own.{IsOut, seen_by};
+ghost use Rattle.build_scheduler.specs.Own.{IsOut};
 ghost use Rattle.build_scheduler.specs.Position.{begins};
 ghost use Rattle.build_scheduler.specs.Ready.{IsReady, IsLeastReady};
 ghost use Rattle.build_scheduler.specs.Shown.{AreNested, Shown, Indexed, is_ready};
@@ -65,18 +65,17 @@ pub struct Core<W: Walker> {
     pub(crate) kept: KeptEnds<W>,
     /// What is not needed any more, until a node takes it.
     pub(crate) released: Released<W>,
-    ghost legal: { ∥ Shown (seen_by W.world W.position W.asked W.learnt) (W.world_of world) history
-        origins.items slots.items making.items table end ∥₁ },
+    ghost legal: { ∥ Shown W.seen (W.world_of world) history origins.items slots.items making.items
+        table end ∥₁ },
     ghost indexed: { ∥ Indexed slots.items ready waiting.items ∥₁ },
     ghost counted: { ∥ AreCounted instances (map instance_asked origins.items) ∥₁ },
     ghost active: { AreOfNodes history.nodes history.events },
     ghost few: { length instances ≤ most_instances },
     ghost nested: { ∥ AreNested origins.items ∥₁ },
     ghost stops: { ∥ ShowsStop (W.world_of world) history.events end ∥₁ },
-    ghost kept_so: { ∥ AreKept (seen_by W.world W.position W.asked W.learnt) (W.world_of world)
-        table.finished origins.items kept.instances.items ∥₁ },
-    ghost behind: { ∥ AreBehind (seen_by W.world W.position W.asked W.learnt) (W.world_of world)
-        history.events slots.items ∥₁ },
+    ghost kept_so: { ∥ AreKept W.seen (W.world_of world) table.finished origins.items
+        kept.instances.items ∥₁ },
+    ghost behind: { ∥ AreBehind W.seen (W.world_of world) history.events slots.items ∥₁ },
 }
 
 // A drop that is written out is proved here alone.
@@ -102,11 +101,11 @@ impl<W: Walker + Drop> Drop for Core<W> {
 impl<W: Walker> Core<W> {
     /// The core of a root request, whose walk had no answer yet.
     pub fn new(alloc: Global, root: RequestKey, walk: W) -> Result<Core<W>, NoMemory>
-        requires key { root ≡ (W.world walk).root }
-        requires begins { W.position walk ≡ begins (W.world walk) root [] }
-        requires asked { W.asked walk ≡ 0 }
-        requires learnt { W.learnt walk ≡ [] }
-        ensures world { IfOk result (λ core. W.world_of core.world ≡ W.world walk) }
+        requires key { root ≡ (W.seen walk).world.root }
+        requires begins { (W.seen walk).position ≡ begins (W.seen walk).world root [] }
+        requires asked { (W.seen walk).asked ≡ 0 }
+        requires learnt { (W.seen walk).learnt ≡ [] }
+        ensures world { IfOk result (λ core. W.world_of core.world ≡ (W.seen walk).world) }
         ensures history { IfOk result (λ core. core.history.events ≡ []) }
         ensures table { IfOk result (λ core. core.table.finished ≡ []) }
         ensures end { IfOk result (λ core. core.end ≡ None) }
@@ -159,10 +158,9 @@ impl<W: Walker> Core<W> {
         ensures nodes { self.new.history.nodes ≡ self.old.history.nodes }
         ensures room { self.old.history.room ≡ self.new.history.room + 1 }
         ensures out { ∥ IsOut (W.world_of self.new.world) self.new.history.events
-            self.new.table.finished id (seen_by W.world W.position W.asked W.learnt result.0)
-            result.1 ∥₁ }
+            self.new.table.finished id (W.seen result.0) result.1 ∥₁ }
         ensures behind { ∥ IsBehind (W.world_of self.old.world) self.old.history.events id
-            (W.position result.0).place ∥₁ }
+            (W.seen result.0).position.place ∥₁ }
     {
         self.ready.remove(id);
         self.history.push(Event::Assign(id, node));

@@ -145,11 +145,11 @@ impl<W: Drop> Calls<W> {
     ghost use Rattle.build_scheduler.specs.Calls.{IsTold};
 
     /// The slot of the caller after one of its calls has given its result.
-    pub(crate) fn tell(self, id: u64, told: RequestResult) -> Slot<W>
+    pub(crate) fn tell(self, id: u64, request_result: RequestResult) -> Slot<W>
         requires first { self.first ≤ id }
         requires place { id - self.first < length self.results.items }
         requires some { 0 < self.«open» }
-        ensures { IsTold self (id - self.first) told result }
+        ensures { IsTold self (id - self.first) request_result result }
     {
         let Calls {
             walk,
@@ -157,7 +157,7 @@ impl<W: Drop> Calls<W> {
             open,
             mut results,
         } = self;
-        results[(id - first) as usize] = told;
+        results[(id - first) as usize] = request_result;
         if open == 1 {
             Slot::Ready(walk, Answer::Results(List::from(results)))
         } else {
@@ -178,17 +178,15 @@ impl<W: Walker> Calls<W> {
     ghost use Rattle.build_scheduler.specs.Calls.{HasTaken};
     ghost use Rattle.build_scheduler.specs.HandedBack.{IsLeft};
     ghost use Rattle.build_scheduler.specs.Learnt.{AreInOrder, ArePartOf};
-    ghost use Rattle.build_scheduler.specs.Own.{seen_by};
 
     /// Lets the caller take over the journal of a call that is over, where it is the first one: so
     /// it need not replay the runs of the first result. Else the walk is handed back.
     pub(crate) fn take_journal(&mut self, id: u64, call: W, table: &Table) -> Option<W>
         requires in_order { AreInOrder table.now.finished }
-        requires known { ArePartOf (W.learnt self.old.walk) table.now.finished }
-        requires replays { replay_all table.now.finished (W.position call).runs
-            (W.position self.old.walk).journal ≡ Some (W.position call).journal }
-        ensures taken { HasTaken (seen_by W.world W.position W.asked W.learnt) table.now.finished
-            self.old self.new }
+        requires known { ArePartOf (W.seen self.old.walk).learnt table.now.finished }
+        requires replays { replay_all table.now.finished (W.seen call).position.runs
+            (W.seen self.old.walk).position.journal ≡ Some (W.seen call).position.journal }
+        ensures taken { HasTaken W.seen table.now.finished self.old self.new }
         ensures left { IsLeft (Some (Calling self.old)) id call result }
     {
         if id == self.first {

@@ -22,7 +22,6 @@ ghost use Rattle.std.specs.Prelude.{
 ghost use mathlib.Core.List.{IsPrefix};
 ghost use Rattle.result_cache.specs.declared.request.RequestKey.{RequestKey as Key};
 ghost use Rattle.result_cache.specs.Replay.{replay_all};
-ghost use Rattle.result_cache.specs.Table.{Records};
 ghost use Rattle.build_meaning.specs.Plain.{IsPlain};
 ghost use Rattle.build_meaning.specs.World.{World};
 ghost use Rattle.build_meaning.specs.SoFar.{ToolUse};
@@ -37,6 +36,7 @@ ghost use Rattle.build_scheduler.specs.Position.{
   used_between,
 };
 ghost use Rattle.build_scheduler.specs.Learnt.{AreInOrder, ArePartOf};
+ghost use Rattle.build_scheduler.specs.Own.{Seen};
 
 use msb_values::{List, NoMemory};
 use result_cache::{RecordRef, RequestKey, RequestResult, RunId, Table};
@@ -102,17 +102,8 @@ pub trait Walker: Sized + Drop {
     /// The world that an origin tells.
     ghost world_of: { Self.Origin → World Self.Site Self.Input Self.Output };
 
-    /// The world that the walk is of.
-    ghost world: { Self → World Self.Site Self.Input Self.Output };
-
-    /// Where it stands: what it asks there waits for its answer.
-    ghost position: { Self → Position Self.Site Self.Input Self.Output };
-
-    /// How often it has asked.
-    ghost asked: { Self → ℕ };
-
-    /// The records that it has learnt, the last one first.
-    ghost learnt: { Self → Records };
+    /// What contracts see of the walk.
+    ghost seen: { Self → Seen Self.Site Self.Input Self.Output };
 
     /// Where it stood before its last `advance`, and how often it had asked; None where it was not
     /// advanced since it was made or put back.
@@ -132,17 +123,18 @@ pub trait Walker: Sized + Drop {
 
     /// What tells the walk's world. This takes no memory.
     fn origin(&self) -> Self::Origin
-        ensures { Self.world_of result ≡ Self.world self.now };
+        ensures { Self.world_of result ≡ (Self.seen self.now).world };
 
     /// The walk of a request that this one calls. It begins with the caller's journal.
     fn child(&self, key: &RequestKey) -> Result<Self, NoMemory>
-        requires { IsCall key.now (ask_of (Self.position self.now)) }
-        ensures world { IfOk result (λ child. Self.world child ≡ Self.world self.now) }
-        ensures begins { IfOk result (λ child. Self.position child
-            ≡ begins (Self.world self.now) key.now (Self.position self.now).journal) }
-        ensures asked { IfOk result (λ child. Self.asked child ≡ 0) }
-        ensures learnt { IfOk result
-            (λ child. ArePartOf (Self.learnt child) (Self.learnt self.now)) }
+        requires { IsCall key.now (ask_of (Self.seen self.now).position) }
+        ensures world { IfOk result (λ child. (Self.seen child).world
+            ≡ (Self.seen self.now).world) }
+        ensures begins { IfOk result (λ child. (Self.seen child).position
+            ≡ begins (Self.seen self.now).world key.now (Self.seen self.now).position.journal) }
+        ensures asked { IfOk result (λ child. (Self.seen child).asked ≡ 0) }
+        ensures learnt { IfOk result (λ child. ArePartOf (Self.seen child).learnt
+            (Self.seen self.now).learnt) }
         ensures earlier { IfOk result (λ child. Self.earlier child ≡ None) };
 
     /// Takes over the journal of a request that this one has called and that is over. The runs of
@@ -151,52 +143,55 @@ pub trait Walker: Sized + Drop {
     /// no memory, nothing is taken over. (MSBuild task.)
     fn take_journal(&mut self, call: Self, table: &Table)
         requires in_order { AreInOrder table.now.finished }
-        requires known { ArePartOf (Self.learnt self.old) table.now.finished }
-        requires replays { replay_all table.now.finished (Self.position call).runs
-            (Self.position self.old).journal ≡ Some (Self.position call).journal }
-        ensures known { ArePartOf (Self.learnt self.new) table.now.finished }
-        ensures world { Self.world self.new ≡ Self.world self.old }
-        ensures position { Self.position self.new ≡ Self.position self.old }
-        ensures asked { Self.asked self.new ≡ Self.asked self.old }
+        requires known { ArePartOf (Self.seen self.old).learnt table.now.finished }
+        requires replays { replay_all table.now.finished (Self.seen call).position.runs
+            (Self.seen self.old).position.journal ≡ Some (Self.seen call).position.journal }
+        ensures known { ArePartOf (Self.seen self.new).learnt table.now.finished }
+        ensures world { (Self.seen self.new).world ≡ (Self.seen self.old).world }
+        ensures position { (Self.seen self.new).position ≡ (Self.seen self.old).position }
+        ensures asked { (Self.seen self.new).asked ≡ (Self.seen self.old).asked }
         ensures earlier { Self.earlier self.new ≡ Self.earlier self.old };
 
     /// Whether its journal is empty. This takes no memory.
     fn knows_nothing(&self) -> bool
-        ensures nothing { result ≡ true → (Self.position self.now).journal ≡ [] }
-        ensures exact { (Self.position self.now).journal ≡ [] → result ≡ true };
+        ensures nothing { result ≡ true → (Self.seen self.now).position.journal ≡ [] }
+        ensures exact { (Self.seen self.now).position.journal ≡ [] → result ≡ true };
 
     /// How many runs it has made or used. This takes no memory.
     fn runs_used(&self) -> usize
-        ensures { result ≡ length (Self.position self.now).runs };
+        ensures { result ≡ length (Self.seen self.now).position.runs };
 
     /// A walk that is over as this one is, with the same journal. It has learnt nothing.
-    fn ended(&self) -> Result<Self, NoMemory>
-        requires asked { 0 < Self.asked self.now }
-        requires over { HasEnded (ask_of (Self.position self.now)) }
-        ensures world { IfOk result (λ ended. Self.world ended ≡ Self.world self.now) }
-        ensures position { IfOk result (λ ended. Self.position ended ≡ Self.position self.now) }
-        ensures asked { IfOk result (λ ended. Self.asked ended ≡ 1) }
-        ensures learnt { IfOk result (λ ended. Self.learnt ended ≡ []) }
+    fn copy_end(&self) -> Result<Self, NoMemory>
+        requires asked { 0 < (Self.seen self.now).asked }
+        requires over { HasEnded (ask_of (Self.seen self.now).position) }
+        ensures world { IfOk result (λ ended. (Self.seen ended).world
+            ≡ (Self.seen self.now).world) }
+        ensures position { IfOk result (λ ended. (Self.seen ended).position
+            ≡ (Self.seen self.now).position) }
+        ensures asked { IfOk result (λ ended. (Self.seen ended).asked ≡ 1) }
+        ensures learnt { IfOk result (λ ended. (Self.seen ended).learnt ≡ []) }
         ensures earlier { IfOk result (λ ended. Self.earlier ended ≡ None) };
 
     /// A walk that is over as that one is, from where this one stands: it has replayed the records
     /// of the runs that are left to it. It has learnt nothing.
-    fn ended_as(&self, end: &Self, table: &Table) -> Result<Self, NoMemory>
-        requires asked { 0 < Self.asked end.now }
-        requires over { HasEnded (ask_of (Self.position end.now)) }
+    fn end_as(&self, end: &Self, table: &Table) -> Result<Self, NoMemory>
+        requires asked { 0 < (Self.seen end.now).asked }
+        requires over { HasEnded (ask_of (Self.seen end.now).position) }
         requires replays { IsSome (replay_all table.now.finished
-            (drop (length (Self.position self.now).runs) (Self.position end.now).runs)
-            (Self.position self.now).journal) }
-        ensures world { IfOk result (λ ended. Self.world ended ≡ Self.world self.now) }
+            (drop (length (Self.seen self.now).position.runs) (Self.seen end.now).position.runs)
+            (Self.seen self.now).position.journal) }
+        ensures world { IfOk result (λ ended. (Self.seen ended).world
+            ≡ (Self.seen self.now).world) }
         ensures journal { IfOk result (λ ended. replay_all table.now.finished
-            (drop (length (Self.position self.now).runs) (Self.position end.now).runs)
-            (Self.position self.now).journal ≡ Some (Self.position ended).journal) }
-        ensures runs { IfOk result
-            (λ ended. (Self.position ended).runs ≡ (Self.position end.now).runs) }
-        ensures place { IfOk result
-            (λ ended. (Self.position ended).place ≡ (Self.position end.now).place) }
-        ensures asked { IfOk result (λ ended. Self.asked ended ≡ 1) }
-        ensures learnt { IfOk result (λ ended. Self.learnt ended ≡ []) }
+            (drop (length (Self.seen self.now).position.runs) (Self.seen end.now).position.runs)
+            (Self.seen self.now).position.journal ≡ Some (Self.seen ended).position.journal) }
+        ensures runs { IfOk result (λ ended. (Self.seen ended).position.runs
+            ≡ (Self.seen end.now).position.runs) }
+        ensures place { IfOk result (λ ended. (Self.seen ended).position.place
+            ≡ (Self.seen end.now).position.place) }
+        ensures asked { IfOk result (λ ended. (Self.seen ended).asked ≡ 1) }
+        ensures learnt { IfOk result (λ ended. (Self.seen ended).learnt ≡ []) }
         ensures earlier { IfOk result (λ ended. Self.earlier ended ≡ None) };
 
     /// Whether what a request of this key asks between its runs is told by the records that it
@@ -204,63 +199,66 @@ pub trait Walker: Sized + Drop {
     /// (MSBuild conditions, Exists.)
     fn is_plain(&self, key: &RequestKey) -> bool
         ensures so { result ≡ Self.plain_for self.now key.now }
-        ensures plain { result ≡ true → IsPlain (Self.world self.now) key.now };
+        ensures plain { result ≡ true → IsPlain (Self.seen self.now).world key.now };
 
     /// Learns the records that an answer needs, through all levels of calls: the answer then takes
     /// the walk where it would by the whole table. Where there is no memory, the walk is as it was.
     fn learn(&mut self, table: &Table, answer: &Answer) -> Result<(), NoMemory>
         requires in_order { AreInOrder table.now.finished }
-        requires known { ArePartOf (Self.learnt self.old) table.now.finished }
-        requires fits { IsSome
-            (answered (Self.world self.old) table.now.finished (Self.position self.old)
+        requires known { ArePartOf (Self.seen self.old).learnt table.now.finished }
+        requires fits { IsSome (answered (Self.seen self.old).world table.now.finished
+            (Self.seen self.old).position answer.now) }
+        ensures learns { OnOk result (answered (Self.seen self.old).world
+            (Self.seen self.new).learnt (Self.seen self.old).position answer.now
+            ≡ answered (Self.seen self.old).world table.now.finished (Self.seen self.old).position
             answer.now) }
-        ensures learns { OnOk result
-            (answered (Self.world self.old) (Self.learnt self.new) (Self.position self.old) answer.now
-            ≡ answered (Self.world self.old) table.now.finished (Self.position self.old)
-            answer.now) }
-        ensures known { ArePartOf (Self.learnt self.new) table.now.finished }
-        ensures err { OnErr result (Self.learnt self.new ≡ Self.learnt self.old) }
-        ensures world { Self.world self.new ≡ Self.world self.old }
-        ensures position { Self.position self.new ≡ Self.position self.old }
-        ensures asked { Self.asked self.new ≡ Self.asked self.old }
+        ensures known { ArePartOf (Self.seen self.new).learnt table.now.finished }
+        ensures err { OnErr result ((Self.seen self.new).learnt ≡ (Self.seen self.old).learnt) }
+        ensures world { (Self.seen self.new).world ≡ (Self.seen self.old).world }
+        ensures position { (Self.seen self.new).position ≡ (Self.seen self.old).position }
+        ensures asked { (Self.seen self.new).asked ≡ (Self.seen self.old).asked }
         ensures earlier { Self.earlier self.new ≡ Self.earlier self.old };
 
     /// Goes on with an answer to the next ask. Where there is no memory, the walk is as it was, and
     /// the calls of tools begin with those of before. The place fits the walk's world, before and
     /// after.
     fn advance(&mut self, place: &mut Self::Place, answer: &Answer) -> Result<Ask, NoMemory>
-        requires fits { IsSome
-            (answered (Self.world self.old) (Self.learnt self.old) (Self.position self.old)
-            answer.now) }
-        requires turn { IsInTurn (Self.asked self.old) answer.now }
-        requires room { Self.asked self.old < 2 ^ 63 }
-        requires place { Self.Fits place.old (Self.world self.old) }
-        ensures place { Self.Fits place.new (Self.world self.old) }
+        requires fits { IsSome (answered (Self.seen self.old).world (Self.seen self.old).learnt
+            (Self.seen self.old).position answer.now) }
+        requires turn { IsInTurn (Self.seen self.old).asked answer.now }
+        requires room { (Self.seen self.old).asked < 2 ^ 63 }
+        requires place { Self.Fits place.old (Self.seen self.old).world }
+        ensures place { Self.Fits place.new (Self.seen self.old).world }
         ensures lent { Self.lent place.new ≡ Self.lent place.old }
-        ensures asks { IfOk result (λ ask. ask ≡ ask_of (Self.position self.new)) }
-        ensures goes_on { OnOk result
-            (answered (Self.world self.old) (Self.learnt self.old) (Self.position self.old)
-            answer.now ≡ Some (Self.position self.new)) }
-        ensures asked { OnOk result (Self.asked self.new ≡ Self.asked self.old + 1) }
-        ensures used { OnOk result (Self.used place.new
-            ≡ Self.used place.old ++ used_between (Self.position self.old).place
-            (Self.position self.new).place) }
-        ensures earlier { OnOk result (Self.earlier self.new
-            ≡ Some (Self.position self.old, Self.asked self.old)) }
-        ensures stays { OnErr result (Self.position self.new ≡ Self.position self.old) }
-        ensures asked_err { OnErr result (Self.asked self.new ≡ Self.asked self.old) }
+        ensures asks { IfOk result (λ ask. ask ≡ ask_of (Self.seen self.new).position) }
+        ensures goes_on { OnOk result (answered (Self.seen self.old).world
+            (Self.seen self.old).learnt (Self.seen self.old).position answer.now
+            ≡ Some (Self.seen self.new).position) }
+        ensures asked { OnOk result ((Self.seen self.new).asked ≡ (Self.seen self.old).asked + 1) }
+        ensures used { OnOk result (Self.used place.new ≡ Self.used place.old
+            ++ used_between (Self.seen self.old).position.place
+            (Self.seen self.new).position.place) }
+        ensures earlier { OnOk result (Self.earlier self.new ≡ Some (
+          (Self.seen self.old).position,
+          (Self.seen self.old).asked,
+        )) }
+        ensures stays { OnErr result ((Self.seen self.new).position
+            ≡ (Self.seen self.old).position) }
+        ensures asked_err { OnErr result ((Self.seen self.new).asked ≡ (Self.seen self.old).asked) }
         ensures used_err { OnErr result (IsPrefix (Self.used place.old) (Self.used place.new)) }
-        ensures world { Self.world self.new ≡ Self.world self.old }
-        ensures learnt { Self.learnt self.new ≡ Self.learnt self.old };
+        ensures world { (Self.seen self.new).world ≡ (Self.seen self.old).world }
+        ensures learnt { (Self.seen self.new).learnt ≡ (Self.seen self.old).learnt };
 
     /// Takes back the last `advance`: the walk stands as before it. This takes no memory.
     fn back(&mut self)
         requires advanced { IsSome (Self.earlier self.old) }
-        ensures stands { Self.earlier self.old
-            ≡ Some (Self.position self.new, Self.asked self.new) }
+        ensures stands { Self.earlier self.old ≡ Some (
+          (Self.seen self.new).position,
+          (Self.seen self.new).asked,
+        ) }
         ensures earlier { Self.earlier self.new ≡ None }
-        ensures world { Self.world self.new ≡ Self.world self.old }
-        ensures learnt { Self.learnt self.new ≡ Self.learnt self.old };
+        ensures world { (Self.seen self.new).world ≡ (Self.seen self.old).world }
+        ensures learnt { (Self.seen self.new).learnt ≡ (Self.seen self.old).learnt };
 
     /// A place fits a world in one way alone.
     ghost fits_once: { (place : Self.Place) (w : World Self.Site Self.Input Self.Output)

@@ -23,7 +23,6 @@ ghost use Rattle.build_scheduler.specs.declared.walker.Ask.TheVariants.{
 ghost use Rattle.build_scheduler.specs.declared.walker.Answer.TheVariants.{Results};
 ghost use mathlib.Core.List.{IsPrefix};
 ghost use Rattle.build_scheduler.specs.Learnt.{AreInOrder, ArePartOf};
-ghost use Rattle.build_scheduler.specs.Own.{seen_by};
 ghost use Rattle.build_scheduler.specs.Position.{IsInTurn, answered, ask_of, begins};
 ghost use Rattle.build_steady.specs.declared.checking.CheckStep.TheVariants.{GoesOn};
 ghost use Rattle.build_steady.specs.declared.verdict.Verdict.TheVariants.{TooDeep};
@@ -107,14 +106,15 @@ pub fn check_walk<W: Recalls>(
     walk: W,
     place: &mut W::Place,
 ) -> Result<Verdict, NoMemory>
-    requires root { root.now ≡ (W.world walk).root.instance }
-    requires begins { W.position walk ≡ begins (W.world walk) (W.world walk).root [] }
-    requires asked { W.asked walk ≡ 0 }
-    requires learnt { W.learnt walk ≡ [] }
-    requires place { W.Fits place.old (W.world walk) }
-    ensures verdict { IfOk result (λ verdict. verdict ≡ verdict_of (W.world walk)) }
+    requires root { root.now ≡ (W.seen walk).world.root.instance }
+    requires begins { (W.seen walk).position ≡ begins (W.seen walk).world (W.seen walk).world.root
+        [] }
+    requires asked { (W.seen walk).asked ≡ 0 }
+    requires learnt { (W.seen walk).learnt ≡ [] }
+    requires place { W.Fits place.old (W.seen walk).world }
+    ensures verdict { IfOk result (λ verdict. verdict ≡ verdict_of (W.seen walk).world) }
     ensures front { IsPrefix (W.used place.old) (W.used place.new) }
-    ensures place { W.Fits place.new (W.world walk) }
+    ensures place { W.Fits place.new (W.seen walk).world }
     ensures lent { W.lent place.new ≡ W.lent place.old }
 {
     let mut check = Check::new(alloc);
@@ -146,17 +146,17 @@ impl<W: Recalls> Check<W> {
 
     /// The root request is reached.
     fn start(&mut self, root: &InstanceKey, walk: W) -> Result<CheckStep<W>, NoMemory>
-        requires root { root.now ≡ (W.world walk).root.instance }
-        requires begins { W.position walk ≡ begins (W.world walk) (W.world walk).root [] }
-        requires asked { W.asked walk ≡ 0 }
-        requires learnt { W.learnt walk ≡ [] }
+        requires root { root.now ≡ (W.seen walk).world.root.instance }
+        requires begins { (W.seen walk).position ≡ begins (W.seen walk).world
+            (W.seen walk).world.root [] }
+        requires asked { (W.seen walk).asked ≡ 0 }
+        requires learnt { (W.seen walk).learnt ≡ [] }
         requires findings { Shows self.old.findings [] }
         requires records { self.old.findings.records.finished ≡ [] }
         requires path { self.old.path.items ≡ [] }
         requires callers { self.old.callers.items ≡ [] }
         requires asks { self.old.asks ≡ 0 }
-        ensures turn { IfOk result (IsCheckStep (seen_by W.world W.position W.asked W.learnt)
-            (W.world walk) self.new) }
+        ensures turn { IfOk result (IsCheckStep W.seen (W.seen walk).world self.new) }
         ensures asks { self.new.asks ≡ 0 }
     {
         match self.findings.reach(root)? {
@@ -173,14 +173,12 @@ impl<W: Recalls> Check<W> {
         answer: Answer,
     ) -> Result<CheckStep<W>, NoMemory>
         requires room { self.old.asks < 2 ^ 62 }
-        requires turn { IsCheckStep (seen_by W.world W.position W.asked W.learnt) (W.world walk)
-            self.old (GoesOn walk answer) }
-        requires place { W.Fits place.old (W.world walk) }
-        ensures turn { IfOk result (IsCheckStep (seen_by W.world W.position W.asked W.learnt)
-            (W.world walk) self.new) }
+        requires turn { IsCheckStep W.seen (W.seen walk).world self.old (GoesOn walk answer) }
+        requires place { W.Fits place.old (W.seen walk).world }
+        ensures turn { IfOk result (IsCheckStep W.seen (W.seen walk).world self.new) }
         ensures asks { OnOk result (self.new.asks ≡ self.old.asks + 1) }
         ensures front { IsPrefix (W.used place.old) (W.used place.new) }
-        ensures place { W.Fits place.new (W.world walk) }
+        ensures place { W.Fits place.new (W.seen walk).world }
         ensures lent { W.lent place.new ≡ W.lent place.old }
     {
         let mut walk = walk;
@@ -197,13 +195,11 @@ impl<W: Recalls> Check<W> {
     /// A run is wanted: it has ended in the journal, or is made, unless it is wanted in its own
     /// body. (MSBuild task: a target is run once.)
     fn want(&mut self, walk: W, run: RunId) -> Result<CheckStep<W>, NoMemory>
-        requires held { IsHeld (seen_by W.world W.position W.asked W.learnt) (W.world walk) self.old
-            (W.position walk) }
-        requires asking { IsAsking (W.world walk) self.old.findings.records.finished self.old.asks
-            (seen_by W.world W.position W.asked W.learnt walk) }
-        requires asks { ask_of (W.position walk) ≡ Want run }
-        ensures turn { IfOk result (IsCheckStep (seen_by W.world W.position W.asked W.learnt)
-            (W.world walk) self.new) }
+        requires held { IsHeld W.seen (W.seen walk).world self.old (W.seen walk).position }
+        requires asking { IsAsking (W.seen walk).world self.old.findings.records.finished
+            self.old.asks (W.seen walk) }
+        requires asks { ask_of (W.seen walk).position ≡ Want run }
+        ensures turn { IfOk result (IsCheckStep W.seen (W.seen walk).world self.new) }
         ensures asks { self.new.asks ≡ self.old.asks }
     {
         let name = RunRef::new(*self.callers.allocator(), &run)?;
@@ -229,13 +225,11 @@ impl<W: Recalls> Check<W> {
         run: &RunId,
         run_record: RecordRef,
     ) -> Result<CheckStep<W>, NoMemory>
-        requires held { IsHeld (seen_by W.world W.position W.asked W.learnt) (W.world walk) self.old
-            (W.position walk) }
-        requires asking { IsAsking (W.world walk) self.old.findings.records.finished self.old.asks
-            (seen_by W.world W.position W.asked W.learnt walk) }
-        requires asks { ask_of (W.position walk) ≡ IsFinished run.now run_record }
-        ensures turn { IfOk result (IsCheckStep (seen_by W.world W.position W.asked W.learnt)
-            (W.world walk) self.new) }
+        requires held { IsHeld W.seen (W.seen walk).world self.old (W.seen walk).position }
+        requires asking { IsAsking (W.seen walk).world self.old.findings.records.finished
+            self.old.asks (W.seen walk) }
+        requires asks { ask_of (W.seen walk).position ≡ IsFinished run.now run_record }
+        ensures turn { IfOk result (IsCheckStep W.seen (W.seen walk).world self.new) }
         ensures asks { self.new.asks ≡ self.old.asks }
     {
         match self.findings.end(run, run_record)? {
@@ -250,13 +244,11 @@ impl<W: Recalls> Check<W> {
     /// A body calls requests, unless they would be nested too deep. (MSBuild task,
     /// BuildInParallel.)
     fn call(&mut self, walk: W, calls: List<RequestKey>) -> Result<CheckStep<W>, NoMemory>
-        requires held { IsHeld (seen_by W.world W.position W.asked W.learnt) (W.world walk) self.old
-            (W.position walk) }
-        requires asking { IsAsking (W.world walk) self.old.findings.records.finished self.old.asks
-            (seen_by W.world W.position W.asked W.learnt walk) }
-        requires asks { ask_of (W.position walk) ≡ Call calls }
-        ensures turn { IfOk result (IsCheckStep (seen_by W.world W.position W.asked W.learnt)
-            (W.world walk) self.new) }
+        requires held { IsHeld W.seen (W.seen walk).world self.old (W.seen walk).position }
+        requires asking { IsAsking (W.seen walk).world self.old.findings.records.finished
+            self.old.asks (W.seen walk) }
+        requires asks { ask_of (W.seen walk).position ≡ Call calls }
+        ensures turn { IfOk result (IsCheckStep W.seen (W.seen walk).world self.new) }
         ensures asks { self.new.asks ≡ self.old.asks }
     {
         if self.callers.len() >= MOST_CALLERS {
@@ -276,11 +268,9 @@ impl<W: Recalls> Check<W> {
         walk: W,
         request_result: RequestResult,
     ) -> Result<CheckStep<W>, NoMemory>
-        requires held { IsHeld (seen_by W.world W.position W.asked W.learnt) (W.world walk) self.old
-            (W.position walk) }
-        requires asks { ask_of (W.position walk) ≡ IsDone request_result }
-        ensures turn { IfOk result (IsCheckStep (seen_by W.world W.position W.asked W.learnt)
-            (W.world walk) self.new) }
+        requires held { IsHeld W.seen (W.seen walk).world self.old (W.seen walk).position }
+        requires asks { ask_of (W.seen walk).position ≡ IsDone request_result }
+        ensures turn { IfOk result (IsCheckStep W.seen (W.seen walk).world self.new) }
         ensures asks { self.new.asks ≡ self.old.asks }
     {
         match self.callers.pop() {
@@ -291,10 +281,8 @@ impl<W: Recalls> Check<W> {
 
     /// The next call of a request is reached, or the request goes on with the results of all.
     fn next_call(&mut self, caller: Caller<W>) -> Result<CheckStep<W>, NoMemory>
-        requires { IsReady (seen_by W.world W.position W.asked W.learnt) (W.world caller.walk)
-            self.old caller }
-        ensures turn { IfOk result (IsCheckStep (seen_by W.world W.position W.asked W.learnt)
-            (W.world caller.walk) self.new) }
+        requires { IsReady W.seen (W.seen caller.walk).world self.old caller }
+        ensures turn { IfOk result (IsCheckStep W.seen (W.seen caller.walk).world self.new) }
         ensures asks { self.new.asks ≡ self.old.asks }
     {
         let begun = caller.results.len();
@@ -358,20 +346,20 @@ fn advance<W: Recalls>(
     answer: &Answer,
 ) -> Result<Ask, NoMemory>
     requires in_order { AreInOrder records.now.finished }
-    requires known { ArePartOf (W.learnt walk.old) records.now.finished }
-    requires fits { IsSome (answered (W.world walk.old) records.now.finished (W.position walk.old)
-        answer.now) }
-    requires turn { IsInTurn (W.asked walk.old) answer.now }
-    requires room { W.asked walk.old < 2 ^ 63 }
-    requires place { W.Fits place.old (W.world walk.old) }
-    ensures asks { IfOk result (λ ask. ask ≡ ask_of (W.position walk.new)) }
-    ensures goes_on { OnOk result (answered (W.world walk.old) records.now.finished
-        (W.position walk.old) answer.now ≡ Some (W.position walk.new)) }
-    ensures asked { OnOk result (W.asked walk.new ≡ W.asked walk.old + 1) }
-    ensures known { ArePartOf (W.learnt walk.new) records.now.finished }
-    ensures world { W.world walk.new ≡ W.world walk.old }
+    requires known { ArePartOf (W.seen walk.old).learnt records.now.finished }
+    requires fits { IsSome (answered (W.seen walk.old).world records.now.finished
+        (W.seen walk.old).position answer.now) }
+    requires turn { IsInTurn (W.seen walk.old).asked answer.now }
+    requires room { (W.seen walk.old).asked < 2 ^ 63 }
+    requires place { W.Fits place.old (W.seen walk.old).world }
+    ensures asks { IfOk result (λ ask. ask ≡ ask_of (W.seen walk.new).position) }
+    ensures goes_on { OnOk result (answered (W.seen walk.old).world records.now.finished
+        (W.seen walk.old).position answer.now ≡ Some (W.seen walk.new).position) }
+    ensures asked { OnOk result ((W.seen walk.new).asked ≡ (W.seen walk.old).asked + 1) }
+    ensures known { ArePartOf (W.seen walk.new).learnt records.now.finished }
+    ensures world { (W.seen walk.new).world ≡ (W.seen walk.old).world }
     ensures front { IsPrefix (W.used place.old) (W.used place.new) }
-    ensures place { W.Fits place.new (W.world walk.old) }
+    ensures place { W.Fits place.new (W.seen walk.old).world }
     ensures lent { W.lent place.new ≡ W.lent place.old }
 {
     walk.learn(records, answer)?;

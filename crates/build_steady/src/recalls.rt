@@ -10,7 +10,7 @@ use task_trait::CountedTools;
 pub trait Recalls: Walker {
     /// Whether the run has ended in the walk's journal. This takes no memory.
     fn recalls(&self, run: &RunRef) -> bool
-        ensures { result ≡ has (end_of run.now) (Self.position self.now).journal };
+        ensures { result ≡ has (end_of run.now) (Self.seen self.now).position.journal };
 }
 
 impl<'a, T: CountedTools + 'a> Recalls for Walk<'a, T> {

@@ -51,6 +51,7 @@ use Rattle.build_scheduler.specs.Shown.{Shown}
 use Rattle.build_scheduler.specs.declared.walker.Ask.{Ask}
 use Rattle.build_scheduler.specs.Drivers.{Continues}
 use Rattle.build_scheduler.proofs.HistoryFacts.{one_state}
+use Rattle.build_scheduler.proofs.Replying.{OwnEvent}
 use Rattle.engine_tests.specs.Trials.{IsAsking, WasOwn}
 
 pub drop-front : {X : Type 0} (xs ys : List X) → drop (length xs) (xs ++ ys) ≡ ys
@@ -157,6 +158,11 @@ asks-on w v events after id number walk ask same continues (asks, own) = (
         table_is = k.table_is;
       })),
 )
+
+-- an event by which a request is answered
+pub own-continues : (events after : List Event) (id : ℕ) → OwnEvent events after id
+    → Continues events after
+own-continues events after id x = (x.event ∷ [], x.comes)
 
 -- a request that is over at once adds events, and one that is not adds none
 pub repeated-none : {P I A : Type 0} (w : World P I A) (table : Records) (events after : List Event)

@@ -3,9 +3,8 @@
 //! given.
 ghost use Rattle.std.specs.Prelude.{◌≡◌, ◌+◌, ◌^◌, ◌<◌, [], All, length, None, Some, IfSome};
 ghost use Rattle.build_meaning.specs.Step.{whose};
-ghost use Rattle.build_scheduler.specs.declared.walker.Ask.TheVariants.{Want, Call, Done as IsOver};
 ghost use Rattle.build_scheduler.specs.Kept.{IsRepeated};
-ghost use Rattle.build_scheduler.specs.Own.{IsOut, IsOwn, seen_by};
+ghost use Rattle.build_scheduler.specs.Own.{IsOut, IsOwn};
 ghost use Rattle.build_scheduler.specs.Position.{answered, ask_of, begins};
 ghost use Rattle.build_scheduler.specs.Ready.{IsReady};
 ghost use Rattle.build_scheduler.specs.Drivers.{Continues};
@@ -14,12 +13,12 @@ ghost use Rattle.engine_tests.specs.Trials.{IsAsking};
 use crate::account::Account;
 use crate::random::Random;
 use build_outcome::Outcome;
-use build_scheduler::{Answer, Ask, Claimed, Core, End, Walker, are_of_others, go_on, refusal_end};
+use build_scheduler::{Answer, Ask, Core, End, Reply, Walker, are_of_others, go_on};
 use build_world::World;
 use msb_instance::Instances;
-use msb_values::{List, NoMemory, Text};
+use msb_values::{NoMemory, Text};
 use request_machine::{NodeContext, Walk, root_key};
-use result_cache::{RequestKey, RequestResult, RunId};
+use result_cache::RequestKey;
 use std::alloc::Global;
 use task_trait::CountedTools;
 
@@ -46,9 +45,8 @@ struct Next<W> {
 pub struct AnyOrder<W: Walker> {
     pub core: Core<W>,
     out: Vec<Asking<W>>,
-    ghost asking: { All
-        (λ a. IsAsking (W.world_of core.world) core.history.events a.id a.number
-        (seen_by W.world W.position W.asked W.learnt a.walk) a.ask) out.items },
+    ghost asking: { All (λ a. IsAsking (W.world_of core.world) core.history.events a.id a.number
+        (W.seen a.walk) a.ask) out.items },
 }
 
 impl<W: Walker> AnyOrder<W> {
@@ -123,11 +121,11 @@ fn watch_build<W: Walker>(
     place: &mut W::Place,
     random: Random,
 ) -> Result<Watched, NoMemory>
-    requires key { key ≡ (W.world walk).root }
-    requires begins { W.position walk ≡ begins (W.world walk) key [] }
-    requires asked { W.asked walk ≡ 0 }
-    requires learnt { W.learnt walk ≡ [] }
-    requires place { W.Fits place.old (W.world walk) }
+    requires key { key ≡ (W.seen walk).world.root }
+    requires begins { (W.seen walk).position ≡ begins (W.seen walk).world key [] }
+    requires asked { (W.seen walk).asked ≡ 0 }
+    requires learnt { (W.seen walk).learnt ≡ [] }
+    requires place { W.Fits place.old (W.seen walk).world }
 {
     let core = Core::new(alloc, key, walk)?;
     let mut build = AnyOrder::new(alloc, core);
@@ -187,17 +185,13 @@ const MOST_TURNS: usize = 100_000;
 /// Answers one of the requests that ask, or assigns the least one that is ready.
 fn next_of<W: Walker>(core: &mut Core<W>, out: &mut Vec<Asking<W>>, choice: u64) -> Option<Next<W>>
     requires running { core.old.end ≡ None }
-    requires out { All
-        (λ a. IsAsking (W.world_of core.old.world) core.old.history.events a.id a.number
-        (seen_by W.world W.position W.asked W.learnt a.walk) a.ask) out.old.items }
+    requires out { All (λ a. IsAsking (W.world_of core.old.world) core.old.history.events a.id
+        a.number (W.seen a.walk) a.ask) out.old.items }
     ensures world { W.world_of core.new.world ≡ W.world_of core.old.world }
-    ensures out { All
-        (λ a. IsAsking (W.world_of core.new.world) core.new.history.events a.id a.number
-        (seen_by W.world W.position W.asked W.learnt a.walk) a.ask) out.new.items }
-    ensures next { IfSome result
-        (λ next.
-        ∥ IsOut (W.world_of core.new.world) core.new.history.events core.new.table.finished next.id
-        (seen_by W.world W.position W.asked W.learnt next.walk) next.answer ∥₁) }
+    ensures out { All (λ a. IsAsking (W.world_of core.new.world) core.new.history.events a.id
+        a.number (W.seen a.walk) a.ask) out.new.items }
+    ensures next { IfSome result (λ next. ∥ IsOut (W.world_of core.new.world)
+        core.new.history.events core.new.table.finished next.id (W.seen next.walk) next.answer ∥₁) }
 {
     let at = (choice % (out.len() as u64 + 1)) as usize;
     if at < out.len() {
@@ -214,8 +208,7 @@ fn assign_least<W: Walker>(core: &mut Core<W>, node: u32) -> Option<Next<W>>
     ensures world { W.world_of core.new.world ≡ W.world_of core.old.world }
     ensures continues { ∥ Continues core.old.history.events core.new.history.events ∥₁ }
     ensures next { IfSome result (λ next. ∥ IsOut (W.world_of core.old.world)
-        core.new.history.events core.new.table.finished next.id
-        (seen_by W.world W.position W.asked W.learnt next.walk) next.answer ∥₁) }
+        core.new.history.events core.new.table.finished next.id (W.seen next.walk) next.answer ∥₁) }
 {
     match core.ready() {
         None => None,
@@ -230,8 +223,7 @@ fn hand_out<W: Walker>(core: &mut Core<W>, id: u64, node: u32) -> Option<Next<W>
     ensures world { W.world_of core.new.world ≡ W.world_of core.old.world }
     ensures continues { ∥ Continues core.old.history.events core.new.history.events ∥₁ }
     ensures next { IfSome result (λ next. ∥ IsOut (W.world_of core.old.world)
-        core.new.history.events core.new.table.finished next.id
-        (seen_by W.world W.position W.asked W.learnt next.walk) next.answer ∥₁) }
+        core.new.history.events core.new.table.finished next.id (W.seen next.walk) next.answer ∥₁) }
 {
     if is_repeated(core, id, node) {
         None
@@ -260,13 +252,11 @@ fn is_repeated<W: Walker>(core: &mut Core<W>, id: u64, node: u32) -> bool
 fn bring_back<W: Walker>(core: &mut Core<W>, asking: Asking<W>) -> Option<Next<W>>
     requires running { core.old.end ≡ None }
     requires asking { IsAsking (W.world_of core.old.world) core.old.history.events asking.id
-        asking.number (seen_by W.world W.position W.asked W.learnt asking.walk) asking.ask }
+        asking.number (W.seen asking.walk) asking.ask }
     ensures world { W.world_of core.new.world ≡ W.world_of core.old.world }
     ensures continues { Continues core.old.history.events core.new.history.events }
-    ensures next { IfSome result
-        (λ next.
-        ∥ IsOut (W.world_of core.old.world) core.new.history.events core.new.table.finished next.id
-        (seen_by W.world W.position W.asked W.learnt next.walk) next.answer ∥₁) }
+    ensures next { IfSome result (λ next. ∥ IsOut (W.world_of core.old.world)
+        core.new.history.events core.new.table.finished next.id (W.seen next.walk) next.answer ∥₁) }
 {
     let Asking {
         id,
@@ -281,99 +271,29 @@ fn bring_back<W: Walker>(core: &mut Core<W>, asking: Asking<W>) -> Option<Next<W
     }
 }
 
-/// Answers what a request with a node asks. A cycle of runs, a limit that is passed and want of
-/// memory end the build.
+/// Answers what a request with a node asks. Want of memory ends the build.
 fn answer_ask<W: Walker>(core: &mut Core<W>, id: u64, walk: W, ask: Ask) -> Option<Next<W>>
     requires running { core.old.end ≡ None }
     requires own { ∥ IsOwn (W.world_of core.old.world) core.old.history.events
-        core.old.table.finished id (seen_by W.world W.position W.asked W.learnt walk) ∥₁ }
-    requires asks { ask_of (W.position walk) ≡ ask }
+        core.old.table.finished id (W.seen walk) ∥₁ }
+    requires asks { ask_of (W.seen walk).position ≡ ask }
     ensures world { W.world_of core.new.world ≡ W.world_of core.old.world }
     ensures continues { Continues core.old.history.events core.new.history.events }
-    ensures next { IfSome result
-        (λ next.
-        ∥ IsOut (W.world_of core.old.world) core.new.history.events core.new.table.finished next.id
-        (seen_by W.world W.position W.asked W.learnt next.walk) next.answer ∥₁) }
+    ensures next { IfSome result (λ next. ∥ IsOut (W.world_of core.old.world)
+        core.new.history.events core.new.table.finished next.id (W.seen next.walk) next.answer ∥₁) }
 {
-    match ask {
-        Ask::Want(run) => claim(core, id, walk, &run),
-        Ask::Call(calls) => call(core, id, walk, calls),
-        Ask::Finished(run, made) => {
-            core.result(id, &run, made);
-            Some(Next {
-                id,
-                walk,
-                answer: Answer::Use,
-            })
-        }
-        Ask::Done(told) => {
-            end_request(core, id, walk, told);
-            None
-        }
-    }
-}
-
-/// Ends a request, and keeps how it has ended for others of its key. Where there is no memory,
-/// nothing is kept.
-fn end_request<W: Walker>(core: &mut Core<W>, id: u64, walk: W, told: RequestResult)
-    requires running { core.old.end ≡ None }
-    requires own { ∥ IsOwn (W.world_of core.old.world) core.old.history.events
-        core.old.table.finished id (seen_by W.world W.position W.asked W.learnt walk) ∥₁ }
-    requires asks { ask_of (W.position walk) ≡ IsOver told }
-    ensures world { W.world_of core.new.world ≡ W.world_of core.old.world }
-    ensures continues { Continues core.old.history.events core.new.history.events }
-{
-    let _left = core.end_request(id, walk, told);
-}
-
-fn claim<W: Walker>(core: &mut Core<W>, id: u64, walk: W, run: &RunId) -> Option<Next<W>>
-    requires running { core.old.end ≡ None }
-    requires own { ∥ IsOwn (W.world_of core.old.world) core.old.history.events
-        core.old.table.finished id (seen_by W.world W.position W.asked W.learnt walk) ∥₁ }
-    requires asks { ask_of (W.position walk) ≡ Want run.now }
-    ensures world { W.world_of core.new.world ≡ W.world_of core.old.world }
-    ensures continues { Continues core.old.history.events core.new.history.events }
-    ensures next { IfSome result
-        (λ next.
-        ∥ IsOut (W.world_of core.old.world) core.new.history.events core.new.table.finished next.id
-        (seen_by W.world W.position W.asked W.learnt next.walk) next.answer ∥₁) }
-{
-    match core.claim(id, walk, run) {
-        Ok(Claimed::Go(walk)) => Some(Next {
-            id,
-            walk,
-            answer: Answer::Go,
-        }),
-        Ok(Claimed::Use(walk)) => Some(Next {
+    match core.answer_ask(id, walk, ask) {
+        Reply::GoesOn(walk, answer) => Some(Next { id, walk, answer }),
+        Reply::UsesOwn(walk) => Some(Next {
             id,
             walk,
             answer: Answer::Use,
         }),
-        Ok(Claimed::Wait) => None,
-        Ok(Claimed::Circular(_, runs)) => {
-            core.stop(End::Circular(runs));
-            None
-        }
-        Err(_) => {
+        Reply::Waits => None,
+        Reply::Over(_) => None,
+        Reply::Stopped => None,
+        Reply::NoMemory(_) => {
             core.stop(End::NoMemory);
-            None
-        }
-    }
-}
-
-fn call<W: Walker>(core: &mut Core<W>, id: u64, walk: W, calls: List<RequestKey>) -> Option<Next<W>>
-    requires running { core.old.end ≡ None }
-    requires own { ∥ IsOwn (W.world_of core.old.world) core.old.history.events
-        core.old.table.finished id (seen_by W.world W.position W.asked W.learnt walk) ∥₁ }
-    requires asks { ask_of (W.position walk) ≡ Call calls }
-    ensures world { W.world_of core.new.world ≡ W.world_of core.old.world }
-    ensures continues { Continues core.old.history.events core.new.history.events }
-    ensures next { result ≡ None }
-{
-    match core.request(id, walk, calls) {
-        Ok(()) => None,
-        Err((_, fault)) => {
-            core.stop(refusal_end(fault));
             None
         }
     }
@@ -386,16 +306,14 @@ fn advance<W: Walker>(
     place: &mut W::Place,
     next: Next<W>,
 ) -> Result<(), NoMemory>
-    requires out { All
-        (λ a. IsAsking (W.world_of core.now.world) core.now.history.events a.id a.number
-        (seen_by W.world W.position W.asked W.learnt a.walk) a.ask) out.old.items }
+    requires out { All (λ a. IsAsking (W.world_of core.now.world) core.now.history.events a.id
+        a.number (W.seen a.walk) a.ask) out.old.items }
     requires next { ∥ IsOut (W.world_of core.now.world) core.now.history.events
-        core.now.table.finished next.id (seen_by W.world W.position W.asked W.learnt next.walk)
-        next.answer ∥₁ }
+        core.now.table.finished next.id (W.seen next.walk) next.answer ∥₁ }
     requires place { W.Fits place.old (W.world_of core.now.world) }
     ensures place { W.Fits place.new (W.world_of core.now.world) }
     ensures out { All (λ a. IsAsking (W.world_of core.now.world) core.now.history.events a.id
-        a.number (seen_by W.world W.position W.asked W.learnt a.walk) a.ask) out.new.items }
+        a.number (W.seen a.walk) a.ask) out.new.items }
 {
     let Next {
         id,

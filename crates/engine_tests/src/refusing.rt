@@ -42,13 +42,7 @@ impl<W: Walker> Walker for Refusing<W> {
 
     ghost world_of = { W.world_of };
 
-    ghost world = { λ refusing. W.world refusing.walk };
-
-    ghost position = { λ refusing. W.position refusing.walk };
-
-    ghost asked = { λ refusing. W.asked refusing.walk };
-
-    ghost learnt = { λ refusing. W.learnt refusing.walk };
+    ghost seen = { λ refusing. W.seen refusing.walk };
 
     ghost earlier = { λ refusing. W.earlier refusing.walk };
 
@@ -86,16 +80,16 @@ impl<W: Walker> Walker for Refusing<W> {
         self.walk.runs_used()
     }
 
-    fn ended(&self) -> Result<Refusing<W>, NoMemory> {
+    fn copy_end(&self) -> Result<Refusing<W>, NoMemory> {
         Ok(Refusing {
-            walk: self.walk.ended()?,
+            walk: self.walk.copy_end()?,
             refuses: false,
         })
     }
 
-    fn ended_as(&self, end: &Refusing<W>, table: &Table) -> Result<Refusing<W>, NoMemory> {
+    fn end_as(&self, end: &Refusing<W>, table: &Table) -> Result<Refusing<W>, NoMemory> {
         Ok(Refusing {
-            walk: self.walk.ended_as(&end.walk, table)?,
+            walk: self.walk.end_as(&end.walk, table)?,
             refuses: false,
         })
     }
@@ -231,12 +225,12 @@ fn build_walk<R: Threads + Wait + Sync, W: Walker + Send>(
 where
     W::Place: Send + Drop,
     W::Origin: Send,
-    requires key { key ≡ (W.world walk).root }
-    requires begins { W.position walk ≡ begins (W.world walk) key [] }
-    requires asked { W.asked walk ≡ 0 }
-    requires learnt { W.learnt walk ≡ [] }
+    requires key { key ≡ (W.seen walk).world.root }
+    requires begins { (W.seen walk).position ≡ begins (W.seen walk).world key [] }
+    requires asked { (W.seen walk).asked ≡ 0 }
+    requires learnt { (W.seen walk).learnt ≡ [] }
     requires places { (0 < vec_len places) × (vec_len places ≤ 64) }
-    requires fits { All (λ place. W.Fits place (W.world walk)) places.items }
+    requires fits { All (λ place. W.Fits place (W.seen walk).world) places.items }
 {
     let core = Core::new(alloc, key, walk)?;
     let built = build_with(rt, alloc, core, places)?;

@@ -130,11 +130,11 @@ fn try_repeat_at<W: Walker>(
     place: &mut W::Place,
     id: u64,
 ) -> Result<String, NoMemory>
-    requires key { key ≡ (W.world walk).root }
-    requires begins { W.position walk ≡ begins (W.world walk) key [] }
-    requires asked { W.asked walk ≡ 0 }
-    requires learnt { W.learnt walk ≡ [] }
-    requires place { W.Fits place.old (W.world walk) }
+    requires key { key ≡ (W.seen walk).world.root }
+    requires begins { (W.seen walk).position ≡ begins (W.seen walk).world key [] }
+    requires asked { (W.seen walk).asked ≡ 0 }
+    requires learnt { (W.seen walk).learnt ≡ [] }
+    requires place { W.Fits place.old (W.seen walk).world }
 {
     let core = Core::new(alloc, key, walk)?;
     let mut build = AnyOrder::new(alloc, core);

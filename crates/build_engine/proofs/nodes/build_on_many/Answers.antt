@@ -14,21 +14,19 @@ returns-clause-outcome g c =
     let m = g.W.Walker in
     let core = c.in_ok-core.core in
     let built = c.in_ok-built.built in
-    outcome_of_core (m.world c.args.walk) (m.world_of core.world) (m.world_of built.world)
+    outcome_of_core (m.seen c.args.walk).world (m.world_of core.world) (m.world_of built.world)
     c.args.low built.history.events built.end c.of.result c.in_ok-core.ensures.world
-    c.in_ok-built.ensures.world
-    c.in_ok-built.ensures.legal c.of.ensures.outcome
+    c.in_ok-built.ensures.world c.in_ok-built.ensures.legal c.of.ensures.outcome
 
 pub returns-clause-nodes : goal.returns-clause-nodes
 returns-clause-nodes g c =
     let m = g.W.Walker in
     let core = c.in_ok-core.core in
     let built = c.in_ok-built.built in
-    outcome_on_core (m.world c.args.walk) (m.world_of core.world) (m.world_of built.world)
+    outcome_on_core (m.seen c.args.walk).world (m.world_of core.world) (m.world_of built.world)
     (vec_len c.args.places) c.args.low built.history.events built.end c.of.result
-    c.in_ok-core.ensures.world
-    c.in_ok-built.ensures.world c.in_ok-built.ensures.legal c.in_ok-built.ensures.few
-    c.of.ensures.outcome
+    c.in_ok-core.ensures.world c.in_ok-built.ensures.world c.in_ok-built.ensures.legal
+    c.in_ok-built.ensures.few c.of.ensures.outcome
 
 pub returns-clause-status : goal.returns-clause-status
 returns-clause-status g c = known_statuses c.of.result c.of.ensures.status

@@ -1,6 +1,5 @@
 use Rattle.std.proofs.Common.{length, refl, ap, sym, ◌∙◌}
 use Rattle.turn_board.proofs.Prefixes.{prefix_trans}
-use Rattle.build_scheduler.specs.Own.{seen_by}
 use Rattle.build_nodes.proofs.Active.{active-more, idle-now}
 use Rattle.build_nodes.proofs.Here.{assign-shown}
 use Rattle.build_nodes.proofs.Leaves.{untold-spent}
@@ -12,8 +11,8 @@ give_answer-requires-clause-here g c =
     let m = g.W.Walker in
     let now = c.next_ready.new.core in
     let next = c.assign-walk.new.self in
-    assign-shown (seen_by m.world m.position m.asked m.learnt) (m.world_of next.world)
-    now.history.events c.in-Some.id c.args.node c.assign-walk.ensures.history next.legal
+    assign-shown m.seen (m.world_of next.world) now.history.events c.in-Some.id c.args.node
+    c.assign-walk.ensures.history next.legal
 
 pub give_answer-requires-clause-active : goal.give_answer-requires-clause-active
 give_answer-requires-clause-active g c =
@@ -43,7 +42,7 @@ returns-in-None-clause-next g c =
     let now = c.next_ready.new.core in
     let running = c.next_ready.ensures.running in (
       ap length c.history.ensures.events ∙ sym (length-unmarked now.history.events now.end running),
-      idle-now (seen_by m.world m.position m.asked m.learnt) m.earlier c.args.node
+      idle-now m.seen m.earlier c.args.node
           (m.world_of now.world) now.history.events now.end _ running
           (ap length c.history.ensures.events) c.next_ready.ensures.active,
     )

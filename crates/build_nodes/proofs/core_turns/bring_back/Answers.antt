@@ -1,7 +1,6 @@
 use Rattle.std.proofs.Common.{drop, subst}
 use Rattle.std.proofs.Math.Logic.{∥∥₁_elim, ∥∥₁_map₂}
 use Rattle.build_meaning.specs.History.{AreOfOthers}
-use Rattle.build_scheduler.specs.Own.{seen_by}
 use Rattle.build_nodes.proofs.Away.{asking-back, asking-here, asking-still, ask-prop}
 use Rattle.build_nodes.proofs.core_turns.bring_back.Goals as goal
 
@@ -12,8 +11,7 @@ go_on-requires-clause-own g c =
     let asking = c.args.asking in
     let others = subst (λ l. AreOfOthers asking.id (drop asking.number l)) c.history.ensures.events
     (c.are_of_others.ensures c.if-are_of_others.true) in
-    ∥∥₁_map₂ core.legal c.requires.asking
-    (λ x k. asking-still (seen_by m.world m.position m.asked m.learnt) m.earlier c.args.node
+    ∥∥₁_map₂ core.legal c.requires.asking (λ x k. asking-still m.seen m.earlier c.args.node
     (m.world_of core.world) x asking k others)
 
 pub go_on-requires-clause-here : goal.go_on-requires-clause-here
@@ -23,8 +21,7 @@ go_on-requires-clause-here g c =
     let asking = c.args.asking in
     let others = subst (λ l. AreOfOthers asking.id (drop asking.number l)) c.history.ensures.events
     (c.are_of_others.ensures c.if-are_of_others.true) in
-    ∥∥₁_map₂ core.legal c.requires.asking
-    (λ x k. asking-here (seen_by m.world m.position m.asked m.learnt) m.earlier c.args.node
+    ∥∥₁_map₂ core.legal c.requires.asking (λ x k. asking-here m.seen m.earlier c.args.node
     (m.world_of core.world) x asking k others)
 
 pub go_on-requires-clause-back : goal.go_on-requires-clause-back
@@ -34,8 +31,7 @@ go_on-requires-clause-back g c =
     let asking = c.args.asking in
     let others = subst (λ l. AreOfOthers asking.id (drop asking.number l)) c.history.ensures.events
     (c.are_of_others.ensures c.if-are_of_others.true) in
-    ∥∥₁_map₂ core.legal c.requires.asking
-    (λ x k. asking-back (seen_by m.world m.position m.asked m.learnt) m.earlier c.args.node
+    ∥∥₁_map₂ core.legal c.requires.asking (λ x k. asking-back m.seen m.earlier c.args.node
     (m.world_of core.world) x asking k others)
 
 pub go_on-requires-clause-asks : goal.go_on-requires-clause-asks

@@ -1,7 +1,6 @@
 use Rattle.std.proofs.Common.{drop, subst}
 use Rattle.std.proofs.Math.Logic.{∥∥₁_map₂}
 use Rattle.build_meaning.specs.History.{AreOfOthers}
-use Rattle.build_scheduler.specs.Own.{seen_by}
 use Rattle.build_nodes.proofs.Away.{answered-here, answered-still}
 use Rattle.build_nodes.proofs.core_turns.give_back.Goals as goal
 
@@ -12,8 +11,7 @@ retire-requires-clause-out g c =
     let a = c.args.answered in
     let others = subst (λ l. AreOfOthers a.id (drop a.number l)) c.history.ensures.events
     (c.are_of_others.ensures c.if-are_of_others.true) in
-    ∥∥₁_map₂ core.legal c.requires.answered
-    (λ x k. answered-still (seen_by m.world m.position m.asked m.learnt) m.earlier c.args.node
+    ∥∥₁_map₂ core.legal c.requires.answered (λ x k. answered-still m.seen m.earlier c.args.node
     (m.world_of core.world) x a k others)
 
 pub retire-requires-clause-here : goal.retire-requires-clause-here
@@ -23,6 +21,5 @@ retire-requires-clause-here g c =
     let a = c.args.answered in
     let others = subst (λ l. AreOfOthers a.id (drop a.number l)) c.history.ensures.events
     (c.are_of_others.ensures c.if-are_of_others.true) in
-    ∥∥₁_map₂ core.legal c.requires.answered
-    (λ x k. answered-here (seen_by m.world m.position m.asked m.learnt) m.earlier c.args.node
+    ∥∥₁_map₂ core.legal c.requires.answered (λ x k. answered-here m.seen m.earlier c.args.node
     (m.world_of core.world) x a k others)

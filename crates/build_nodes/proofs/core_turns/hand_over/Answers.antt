@@ -1,6 +1,5 @@
 use Rattle.std.proofs.Common.{◌<◌, ◌^◌, ap, subst, length, arith}
 use Rattle.std.proofs.Math.Logic.{∥∥₁_map₂}
-use Rattle.build_scheduler.specs.Own.{seen_by}
 use Rattle.build_nodes.proofs.Away.{both-shown, handed}
 use Rattle.build_nodes.proofs.Leaves.{untold-spent}
 use Rattle.build_nodes.proofs.core_turns.hand_over.Goals as goal
@@ -17,7 +16,7 @@ returns-clause-next g c =
     let held = c.args.held in
     let few : length c.history.result.now < 2 ^ 63 = omega (arith, c.history.type_inv) in
     let few_so = subst (λ l. length l < 2 ^ 63) c.history.ensures.events few in
-    let seen = seen_by m.world m.position m.asked m.learnt in
+    let seen = m.seen in
     ∥∥₁_map₂ core.legal (both-shown c.requires.here c.requires.out) (λ x p.
     handed seen m.earlier c.args.node (m.world_of core.world) x held.id held.walk held.answer _
     c.requires.running c.requires.active p.0 p.1 (ap length c.history.ensures.events) few_so

@@ -1,5 +1,4 @@
 use Rattle.std.proofs.Math.Logic.{∥∥₁_elim, ∥∥₁_map}
-use Rattle.build_scheduler.specs.Own.{seen_by}
 use Rattle.build_scheduler.proofs.HistoryFacts.{some-prop}
 use Rattle.build_nodes.proofs.Away.{back-fits, back-out}
 use Rattle.build_nodes.proofs.core_turns.take_back.Goals as goal
@@ -11,9 +10,8 @@ back-requires g c =
     let held = c.args.held in
     record {
       advanced = ∥∥₁_elim c.requires.back (some-prop _)
-          (λ b. back-fits (seen_by m.world m.position m.asked m.learnt) m.earlier
-          (m.world_of core.world) core.history.events core.table.finished held.id held.walk
-          held.answer b);
+          (λ b. back-fits m.seen m.earlier (m.world_of core.world) core.history.events
+          core.table.finished held.id held.walk held.answer b);
     }
 
 pub retire-requires-clause-out : goal.retire-requires-clause-out
@@ -22,7 +20,6 @@ retire-requires-clause-out g c =
     let core = c.args.core.now in
     let held = c.args.held in
     let e = c.back.ensures in
-    ∥∥₁_map c.requires.back
-    (λ b. back-out (seen_by m.world m.position m.asked m.learnt) m.earlier
-    (m.world_of core.world) core.history.events core.table.finished held.id held.walk
-    c.back.new.self held.answer b e.stands e.world e.learnt)
+    ∥∥₁_map c.requires.back (λ b. back-out m.seen m.earlier (m.world_of core.world)
+    core.history.events core.table.finished held.id held.walk c.back.new.self held.answer b e.stands
+    e.world e.learnt)

@@ -1,6 +1,5 @@
 use Rattle.std.proofs.Common.{drop, sym, ap, ◌∙◌}
 use Rattle.std.specs.List.{list_any}
-use Rattle.build_scheduler.specs.Own.{seen_by}
 use Rattle.build_nodes.specs.Leaving.{is_retire_of}
 use Rattle.build_nodes.specs.Turns.{number_of}
 use Rattle.build_nodes.proofs.Active.{active-now, retired-now}
@@ -31,8 +30,8 @@ assign_least-requires-clause-active g c =
     (sym c.history.ensures.events)
     ∙ (ap (λ n. list_any (is_retire_of node) (drop n c.history.result.now))
     (sym c.number.ensures) ∙ (sym c.has_retired.ensures ∙ c.if-has_retired.false)) in
-    active-now (seen_by m.world m.position m.asked m.learnt) m.earlier node (m.world_of now.world)
-    now.history.events now.end brought none others c.requires.brought
+    active-now m.seen m.earlier node (m.world_of now.world) now.history.events now.end brought none
+    others c.requires.brought
 
 pub bring_back-requires-clause-active : goal.bring_back-requires-clause-active
 bring_back-requires-clause-active g c =
@@ -45,8 +44,8 @@ bring_back-requires-clause-active g c =
     (sym c.history.ensures.events)
     ∙ (ap (λ n. list_any (is_retire_of node) (drop n c.history.result.now))
     (sym c.number.ensures) ∙ (sym c.has_retired.ensures ∙ c.if-has_retired.false)) in
-    active-now (seen_by m.world m.position m.asked m.learnt) m.earlier node (m.world_of now.world)
-    now.history.events now.end brought none others c.requires.brought
+    active-now m.seen m.earlier node (m.world_of now.world) now.history.events now.end brought none
+    others c.requires.brought
 
 pub give_back-requires-clause-active : goal.give_back-requires-clause-active
 give_back-requires-clause-active g c =
@@ -59,5 +58,5 @@ give_back-requires-clause-active g c =
     (sym c.history.ensures.events)
     ∙ (ap (λ n. list_any (is_retire_of node) (drop n c.history.result.now))
     (sym c.number.ensures) ∙ (sym c.has_retired.ensures ∙ c.if-has_retired.false)) in
-    active-now (seen_by m.world m.position m.asked m.learnt) m.earlier node (m.world_of now.world)
-    now.history.events now.end brought none others c.requires.brought
+    active-now m.seen m.earlier node (m.world_of now.world) now.history.events now.end brought none
+    others c.requires.brought

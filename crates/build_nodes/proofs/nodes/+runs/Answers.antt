@@ -4,7 +4,6 @@ use denote.Param.Send.{IsSend, IsSync, param_send, arg_send, shr_send}
 use Rattle.std.proofs.Common.{rules, All, subst, sym}
 use Rattle.std.proofs.Crossing.{Vec-send}
 use Rattle.std.proofs.lemmas.List.Elements.{All-take}
-use Rattle.build_scheduler.specs.Own.{seen_by}
 use Rattle.build_nodes.specs.Seats.{HasLeft, IsSeated}
 use Rattle.build_nodes.specs.Turns.{IsIdle}
 use Rattle.build_nodes.proofs.Active.{idle-first}
@@ -61,7 +60,7 @@ run_both-returns-clause-numbers g t c =
 pub run_all-work-requires-clause-brought : goal.run_all-work-requires-clause-brought
 run_all-work-requires-clause-brought g t c κs within =
     let m = g.W.Walker in
-    let seen = seen_by m.world m.position m.asked m.learnt in
+    let seen = m.seen in
     let node = c.in-Some.node in
     let seated = all-last (λ n. IsSeated c.args.board.now n.seat) c.args.nodes.items
     c.pop.new.self.items node c.in-Some.ensures.items c.requires.seated in

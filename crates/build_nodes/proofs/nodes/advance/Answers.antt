@@ -1,6 +1,5 @@
 use Rattle.std.proofs.Math.Bridge.{le_prop}
 use Rattle.std.proofs.Math.Logic.{∥∥₁_elim, ∥∥₁_map}
-use Rattle.build_scheduler.specs.Own.{seen_by}
 use Rattle.build_scheduler.proofs.HistoryFacts.{some-prop}
 use Rattle.build_nodes.specs.Turns.{IsAnswered}
 use Rattle.build_nodes.proofs.Away.{
@@ -17,7 +16,7 @@ use Rattle.build_nodes.proofs.nodes.advance.Goals as goal
 pub advance-requires-clause-fits : goal.advance-requires-clause-fits
 advance-requires-clause-fits g c =
     let m = g.W.Walker in
-    let seen = seen_by m.world m.position m.asked m.learnt in
+    let seen = m.seen in
     let seat = c.args.node.now.seat in
     let a = c.args.answered in
     let k = of-some seat.world
@@ -30,7 +29,7 @@ advance-requires-clause-fits g c =
 pub advance-requires-clause-turn : goal.advance-requires-clause-turn
 advance-requires-clause-turn g c =
     let m = g.W.Walker in
-    let seen = seen_by m.world m.position m.asked m.learnt in
+    let seen = m.seen in
     let seat = c.args.node.now.seat in
     let a = c.args.answered in
     let k = of-some seat.world
@@ -42,7 +41,7 @@ advance-requires-clause-turn g c =
 pub advance-requires-clause-room : goal.advance-requires-clause-room
 advance-requires-clause-room g c =
     let m = g.W.Walker in
-    let seen = seen_by m.world m.position m.asked m.learnt in
+    let seen = m.seen in
     let seat = c.args.node.now.seat in
     let a = c.args.answered in
     let k = of-some seat.world
@@ -58,9 +57,8 @@ advance-requires-clause-place g c =
     let laws =
     g.met.W.Walker g.world.𝓛 g.world.𝓜 g.world.𝓡 ((λ s x. x), (λ x. x), (λ x. x), λ x. x) in
     let node = c.args.node.now in
-    fits-walk m.Fits laws.fits_once (λ first. m.world_of first.world)
-    (seen_by m.world m.position m.asked m.learnt) m.earlier node.number node.seat.world
-    node.seat.seen c.args.answered c.requires.answered node.place node.fits
+    fits-walk m.Fits laws.fits_once (λ first. m.world_of first.world) m.seen m.earlier node.number
+    node.seat.world node.seat.seen c.args.answered c.requires.answered node.place node.fits
 
 pub invariant_of-node : goal.invariant_of-node
 invariant_of-node g c =
@@ -70,16 +68,15 @@ invariant_of-node g c =
     let node = c.args.node.now in
     record {
       fits =
-          fits-seat m.Fits laws.fits_once (λ first. m.world_of first.world)
-          (seen_by m.world m.position m.asked m.learnt) m.earlier node.number node.seat.world
-          node.seat.seen c.args.answered c.requires.answered c.advance.new.place
-          c.advance.ensures.place;
+          fits-seat m.Fits laws.fits_once (λ first. m.world_of first.world) m.seen m.earlier
+          node.number node.seat.world node.seat.seen c.args.answered c.requires.answered
+          c.advance.new.place c.advance.ensures.place;
     }
 
 pub returns-in-Ok-clause-brought : goal.returns-in-Ok-clause-brought
 returns-in-Ok-clause-brought g c =
     let m = g.W.Walker in
-    let seen = seen_by m.world m.position m.asked m.learnt in
+    let seen = m.seen in
     let seat = c.args.node.now.seat in
     let a = c.args.answered in
     let told = c.in-Ok.ensures in
@@ -96,7 +93,7 @@ returns-in-Ok-clause-brought g c =
 pub returns-in-Err-clause-brought : goal.returns-in-Err-clause-brought
 returns-in-Err-clause-brought g c =
     let m = g.W.Walker in
-    let seen = seen_by m.world m.position m.asked m.learnt in
+    let seen = m.seen in
     let number = c.args.node.now.number in
     let seat = c.args.node.now.seat in
     let a = c.args.answered in

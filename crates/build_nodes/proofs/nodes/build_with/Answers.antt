@@ -3,7 +3,6 @@ use Rattle.std.specs.Prelude.{IsSomeAnd}
 use Rattle.std.proofs.Math.Logic.{∥∥₁_map}
 use Rattle.build_meaning.specs.History.{AreOfNodes}
 use Rattle.build_meaning.proofs.EventsKeepLawful.{some-is}
-use Rattle.build_scheduler.specs.Own.{seen_by}
 use Rattle.build_scheduler.proofs.Stopping.{end-told}
 use Rattle.build_nodes.specs.Leaving.{IsSpent}
 use Rattle.build_nodes.specs.Marked.{marked}
@@ -57,8 +56,7 @@ returns-clause-legal g c =
     in
     let same = ∥∥₁_map shared.same (λ e. ap (λ k. m.world_of k.world) c.into_core.ensures
     ∙ (e ∙ (ap (λ k. m.world_of k.world) first ∙ c.nodes.ensures.world))) in
-    built-legal (seen_by m.world m.position m.asked m.learnt) (m.world_of built.world)
-    (m.world_of core.world) built.legal same
+    built-legal m.seen (m.world_of built.world) (m.world_of core.world) built.legal same
 
 pub returns-clause-told : goal.returns-clause-told
 returns-clause-told g c =
@@ -76,8 +74,7 @@ returns-clause-told g c =
     let same = ∥∥₁_map shared.same (λ e. ap (λ k. m.world_of k.world) c.into_core.ensures
     ∙ (e ∙ (ap (λ k. m.world_of k.world) first ∙ c.nodes.ensures.world))) in
     built-told (m.world_of built.world) (m.world_of core.world) built.history.events built.end same
-    (end-told (seen_by m.world m.position m.asked m.learnt) (m.world_of built.world) built.end
-    built.legal built.stops)
+    (end-told m.seen (m.world_of built.world) built.end built.legal built.stops)
 
 pub returns-clause-end : goal.returns-clause-end
 returns-clause-end g c =

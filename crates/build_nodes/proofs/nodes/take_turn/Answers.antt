@@ -2,7 +2,6 @@ use Rattle.std.proofs.Common.{ap, subst, sym, ◌∙◌}
 use Rattle.std.proofs.Math.Logic.{∥∥₁_map}
 use Rattle.std.specs.Prelude.{IsSomeAnd}
 use mathlib.Core.List.{IsPrefix}
-use Rattle.build_scheduler.specs.Own.{seen_by}
 use Rattle.build_nodes.specs.Marked.{marked}
 use Rattle.build_nodes.specs.Turns.{IsBrought}
 use Rattle.build_nodes.proofs.CoreCrossing.{shared-crosses}
@@ -18,7 +17,7 @@ turn-next-requires g c =
     let m = g.W.Walker in
     let seat = c.args.seat.now in
     let shared = c.in-State.shared in
-    let seen = seen_by m.world m.position m.asked m.learnt in
+    let seen = m.seen in
     let brought = subst
     (λ o.
     IsSomeAnd o
@@ -48,7 +47,7 @@ wake_one-requires-send-S g c κs within = shared-crosses _ _ _ g.W.Walker c.type
 pub returns-clause-next : goal.returns-clause-next
 returns-clause-next g c =
     let m = g.W.Walker in
-    let seen = seen_by m.world m.position m.asked m.learnt in
+    let seen = m.seen in
     let before = c.in-State.shared in
     let after = c.turn-next.new.self in
     let past = marked after.core.history.events after.core.end in

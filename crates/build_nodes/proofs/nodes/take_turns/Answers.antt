@@ -1,5 +1,4 @@
 use Rattle.std.proofs.Common.{refl}
-use Rattle.build_scheduler.specs.Own.{seen_by}
 use Rattle.build_nodes.specs.Turns.{IsIdle}
 use Rattle.build_nodes.proofs.Active.{idle-first}
 use Rattle.build_nodes.proofs.Turning.{some-true}
@@ -8,7 +7,7 @@ use Rattle.build_nodes.proofs.nodes.take_turns.Goals as goal
 pub loop-init : goal.loop-init
 loop-init g c =
     let m = g.W.Walker in
-    let seen = seen_by m.world m.position m.asked m.learnt in
+    let seen = m.seen in
     let node = c.args.node.now in
     let s = c.requires.seated in (
       (refl, s.1, s.2, s.3),

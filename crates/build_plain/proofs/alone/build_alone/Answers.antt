@@ -1,6 +1,5 @@
 use Rattle.std.proofs.Common.{refl, ap, sym, subst, ◌∙◌}
 use Rattle.std.specs.Prelude.{not, option_copied}
-use Rattle.build_scheduler.specs.Own.{seen_by}
 use Rattle.build_plain.specs.Driven.{Drives, IsFree}
 use Rattle.build_plain.proofs.Driving.{drives-more, drives-none, least-of, none-retired}
 use Rattle.build_plain.proofs.Fronts.{front-self, front-trans}
@@ -22,7 +21,7 @@ loop-core-preserved g c =
           (subst (λ w. Drives w before.history.events after.history.events) same
           c.take_turn.ensures.drives);
       free = subst (λ w. IsFree w after.history.events after.end) same c.take_turn.ensures.free;
-      uses = λ none. turns-uses (seen_by m.world m.position m.asked m.learnt)
+      uses = λ none. turns-uses m.seen
           (m.world_of first.world) (m.world_of before.world) first.history.events
           before.history.events after.history.events
           (m.used c.args.place.now) (m.used c.loop-core.place) (m.used c.take_turn.new.place)
@@ -58,7 +57,7 @@ pub returns-clause-legal : goal.returns-clause-legal
 returns-clause-legal g c =
     let m = g.W.Walker in
     let core = c.loop-core.core in
-    legal-of (seen_by m.world m.position m.asked m.learnt) (m.world_of core.world) core.legal
+    legal-of m.seen (m.world_of core.world) core.legal
 
 pub returns-clause-least : goal.returns-clause-least
 returns-clause-least g c more e =

@@ -1,6 +1,6 @@
 use Rattle.std.proofs.Common.{refl, ap, sym, subst}
 use Rattle.build_meaning.specs.declared.event.Event.TheVariants.{Assign}
-use Rattle.build_scheduler.specs.Own.{IsOut, seen_by}
+use Rattle.build_scheduler.specs.Own.{IsOut}
 use Rattle.build_plain.specs.Driven.{OnlyAssigned}
 use Rattle.build_plain.specs.Used.{due}
 use Rattle.build_plain.proofs.OneAtATime.{legal-of, one-assigned}
@@ -14,8 +14,7 @@ work-requires-clause-only g c =
     let after = c.assign-walk.new.self in
     subst (λ w. OnlyAssigned w after.history.events c.args.id) (sym c.assign-walk.ensures.world)
     (one-assigned (m.world_of core.world) core.history.events after.history.events
-    (Assign c.args.id 0)
-    (legal-of (seen_by m.world m.position m.asked m.learnt) (m.world_of core.world) core.legal)
+    (Assign c.args.id 0) (legal-of m.seen (m.world_of core.world) core.legal)
     c.assign-walk.ensures.history c.args.id refl c.requires.free)
 
 pub work-requires-clause-place : goal.work-requires-clause-place
@@ -32,7 +31,7 @@ returns-clause-uses g c first =
     let core = c.args.core.now in
     let mid = c.assign-walk.new.self in
     let after = c.work.new.core in
-    let seen = seen_by m.world m.position m.asked m.learnt in
+    let seen = m.seen in
     let w = m.world_of core.world in
     let walk = c.assign-walk.result.0 in
     let answer = c.assign-walk.result.1 in

@@ -1,5 +1,4 @@
 use Rattle.std.proofs.Common.{Some, sym, subst}
-use Rattle.build_scheduler.specs.Own.{seen_by}
 use Rattle.build_scheduler.specs.Ready.{IsLeastReady}
 use Rattle.build_plain.specs.Driven.{NoneAssigned}
 use Rattle.build_scheduler.specs.Drivers.{IsLegal}
@@ -18,8 +17,7 @@ pub unreachable-requires : goal.unreachable-requires
 unreachable-requires g c =
     let m = g.W.Walker in
     let core = c.args.core.now in
-    never_idle (seen_by m.world m.position m.asked m.learnt) (m.world_of core.world) core.legal
-    c.requires.running c.requires.free
+    never_idle m.seen (m.world_of core.world) core.legal c.requires.running c.requires.free
     (subst (IsLeastReady (m.world_of core.world) core.history.events) c.in-None.is c.ready.ensures)
 
 pub hand_out-requires-clause-free : goal.hand_out-requires-clause-free
@@ -64,8 +62,7 @@ returns-else-not-is_repeated-clause-free g c =
     (repeat-free (m.world_of core.world) core.table.finished core.history.events
     after.history.events c.in-Some.id c.if-not-is_repeated.ensures.repeated
     (subst (λ w. ∥ IsLegal w after.history.events ∥₁) c.is_repeated.ensures.world
-    (legal-of (seen_by m.world m.position m.asked m.learnt) (m.world_of after.world) after.legal))
-    c.requires.free)
+    (legal-of m.seen (m.world_of after.world) after.legal)) c.requires.free)
 
 pub returns-else-not-is_repeated-clause-grows : goal.returns-else-not-is_repeated-clause-grows
 returns-else-not-is_repeated-clause-grows g c =
@@ -79,9 +76,7 @@ returns-else-not-is_repeated-clause-uses g c first =
     let m = g.W.Walker in
     let core = c.args.core.now in
     let after = c.is_repeated.new.core in
-    unless-any after.end _
-    (repeat-uses (m.world_of core.world) core.table.finished core.history.events
-    after.history.events c.in-Some.id c.if-not-is_repeated.ensures.repeated
+    unless-any after.end _ (repeat-uses (m.world_of core.world) core.table.finished
+    core.history.events after.history.events c.in-Some.id c.if-not-is_repeated.ensures.repeated
     (subst (λ w. ∥ IsLegal w after.history.events ∥₁) c.is_repeated.ensures.world
-    (legal-of (seen_by m.world m.position m.asked m.learnt) (m.world_of after.world) after.legal))
-    (m.used c.args.place.now))
+    (legal-of m.seen (m.world_of after.world) after.legal)) (m.used c.args.place.now))

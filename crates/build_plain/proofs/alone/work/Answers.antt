@@ -1,5 +1,4 @@
 use Rattle.std.proofs.Common.{◌++◌, refl, subst, ◌∙◌}
-use Rattle.build_scheduler.specs.Own.{seen_by}
 use Rattle.build_plain.specs.Driven.{Drives, IsTurn}
 use Rattle.build_plain.specs.Used.{due}
 use Rattle.build_plain.proofs.Driving.{drives-more, drives-none}
@@ -21,22 +20,18 @@ loop-turn-preserved g c =
           (subst (λ w. Drives w before.history.events after.history.events) same
           c.step-turn.ensures.drives);
       turn = subst
-          (λ w. IsTurn (seen_by m.world m.position m.asked m.learnt) w after.history.events
-          after.table.finished after.end c.args.id c.step-turn.result) same
-          c.step-turn.ensures.turn;
-      uses = loop-uses (seen_by m.world m.position m.asked m.learnt) (m.world_of first.world)
+          (λ w. IsTurn m.seen w after.history.events after.table.finished after.end c.args.id
+          c.step-turn.result) same c.step-turn.ensures.turn;
+      uses = loop-uses m.seen (m.world_of first.world)
           (m.world_of before.world) first.history.events before.history.events after.history.events
-          before.table.finished after.table.finished
-          (m.used c.args.place.now ++ due (m.world_of first.world) first.table.finished
-          (seen_by m.world m.position m.asked m.learnt c.args.walk) c.args.answer)
-          (m.used c.loop-turn.place) (m.used c.step-turn.new.place)
-          c.in-GoesOn.walk c.in-GoesOn.answer c.loop-turn.turn c.step-turn.result before.end
-          after.end same
-          (subst
-          (λ turn. IsTurn (seen_by m.world m.position m.asked m.learnt) (m.world_of first.world)
-          before.history.events before.table.finished before.end c.args.id turn) c.in-GoesOn.is
-          c.loop-turn.invariant.turn).0
-          c.in-GoesOn.is c.loop-turn.invariant.uses c.step-turn.ensures.uses;
+          before.table.finished after.table.finished (m.used c.args.place.now
+          ++ due (m.world_of first.world) first.table.finished (m.seen c.args.walk) c.args.answer)
+          (m.used c.loop-turn.place) (m.used c.step-turn.new.place) c.in-GoesOn.walk
+          c.in-GoesOn.answer c.loop-turn.turn c.step-turn.result before.end after.end same
+          (subst (λ turn. IsTurn m.seen (m.world_of first.world) before.history.events
+          before.table.finished before.end c.args.id turn) c.in-GoesOn.is
+          c.loop-turn.invariant.turn).0 c.in-GoesOn.is c.loop-turn.invariant.uses
+          c.step-turn.ensures.uses;
       front = front-trans (m.used c.args.place.now) (m.used c.loop-turn.place)
           (m.used c.step-turn.new.place) c.loop-turn.invariant.front c.step-turn.ensures.front;
       place = subst (m.Fits c.step-turn.new.place) same c.step-turn.ensures.place;
@@ -63,9 +58,7 @@ returns-clause-uses g c =
     let m = g.W.Walker in
     let first = c.args.core.now in
     let after = c.loop-turn.core in
-    over-turn (seen_by m.world m.position m.asked m.learnt) (m.world_of first.world)
-    (m.world_of first.world) first.history.events after.history.events after.table.finished
-    (m.used c.args.place.now ++ due (m.world_of first.world) first.table.finished
-    (seen_by m.world m.position m.asked m.learnt c.args.walk) c.args.answer)
-    (m.used c.loop-turn.place)
-    c.loop-turn.turn after.end c.in_default.is c.loop-turn.invariant.uses
+    over-turn m.seen (m.world_of first.world) (m.world_of first.world) first.history.events
+    after.history.events after.table.finished (m.used c.args.place.now
+    ++ due (m.world_of first.world) first.table.finished (m.seen c.args.walk) c.args.answer)
+    (m.used c.loop-turn.place) c.loop-turn.turn after.end c.in_default.is c.loop-turn.invariant.uses

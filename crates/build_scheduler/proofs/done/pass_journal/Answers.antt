@@ -3,7 +3,6 @@ use Rattle.build_meaning.specs.Lists.{put}
 use Rattle.build_scheduler.specs.declared.slot.Slot.TheVariants.{Calling, Done as Over}
 use Rattle.build_scheduler.specs.Calls.{CanTake}
 use Rattle.build_scheduler.specs.HandedBack.{IsLeft}
-use Rattle.build_scheduler.specs.Own.{seen_by}
 use Rattle.build_scheduler.proofs.Passing.{can_take-calls}
 use Rattle.build_scheduler.proofs.SlotNumbers.{put-put}
 use Rattle.build_scheduler.proofs.done.pass_journal.Goals as goal
@@ -11,20 +10,20 @@ use Rattle.build_scheduler.proofs.done.pass_journal.Goals as goal
 pub take_calls-calls-requires : goal.take_calls-calls-requires
 take_calls-calls-requires g c =
     let m = g.W.Walker in
-    let seen = seen_by m.world m.position m.asked m.learnt in
+    let seen = m.seen in
     can_take-calls seen c.args.table.now.finished (seen c.args.call) _ c.requires.can
 
 pub take_journal-left-requires-clause-known : goal.take_journal-left-requires-clause-known
 take_journal-left-requires-clause-known g c =
     let m = g.W.Walker in
-    let seen = seen_by m.world m.position m.asked m.learnt in
+    let seen = m.seen in
     (subst (CanTake seen c.args.table.now.finished (seen c.args.call))
     c.take_calls-calls.ensures.was c.requires.can).0
 
 pub take_journal-left-requires-clause-replays : goal.take_journal-left-requires-clause-replays
 take_journal-left-requires-clause-replays g c =
     let m = g.W.Walker in
-    let seen = seen_by m.world m.position m.asked m.learnt in
+    let seen = m.seen in
     (subst (CanTake seen c.args.table.now.finished (seen c.args.call))
     c.take_calls-calls.ensures.was c.requires.can).1
 

@@ -15,7 +15,7 @@ loop-at-preserved c =
     subst (λ (n : ℕ). AreOfOthers c.args.id (drop c.args.number (take n events))) next
     (others-more events c.args.number c.loop-at.at c.args.id event.result c.loop-at.auto.at
     c.loop-at-test.true
-    (λ e. c.if-request_of-id.false (c.request_of.ensures ∙ (ap whose event.is ∙ e)))
+    (λ e. c.if-request-id.false (c.request.ensures ∙ (ap whose event.is ∙ e)))
     c.loop-at.invariant)
 
 pub returns : goal.returns

@@ -1,5 +1,4 @@
 use Rattle.std.proofs.Common.{◌∙◌, refl, subst, sym}
-use Rattle.build_scheduler.specs.Own.{seen_by}
 use Rattle.build_steady.specs.Held.{IsCheckStep}
 use Rattle.build_steady.proofs.Holding.{own-turn, turn-own}
 use Rattle.build_steady.proofs.Begun.{begins_same, begins_then}
@@ -16,16 +15,16 @@ loop-check-init g c = record {
 pub step-requires-clause-turn : goal.step-requires-clause-turn
 step-requires-clause-turn g c =
     let m = g.W.Walker in
-    let seen = seen_by m.world m.position m.asked m.learnt in
-    let w = m.world c.args.walk in
+    let seen = m.seen in
+    let w = (m.seen c.args.walk).world in
     own-turn seen w c.loop-check.check c.in-GoesOn.walk c.in-GoesOn.answer
     (subst (IsCheckStep seen w c.loop-check.check) c.in-GoesOn.is c.loop-check.invariant.turn)
 
 pub step-requires-clause-place : goal.step-requires-clause-place
 step-requires-clause-place g c =
     let m = g.W.Walker in
-    let seen = seen_by m.world m.position m.asked m.learnt in
-    let w = m.world c.args.walk in
+    let seen = m.seen in
+    let w = (m.seen c.args.walk).world in
     let turn =
     subst (IsCheckStep seen w c.loop-check.check) c.in-GoesOn.is c.loop-check.invariant.turn in
     subst (m.Fits c.loop-check.place) (sym turn.2.world) c.loop-check.invariant.place
@@ -33,8 +32,8 @@ step-requires-clause-place g c =
 pub loop-check-preserved : goal.loop-check-preserved
 loop-check-preserved g c =
     let m = g.W.Walker in
-    let seen = seen_by m.world m.position m.asked m.learnt in
-    let w = m.world c.args.walk in
+    let seen = m.seen in
+    let w = (m.seen c.args.walk).world in
     let turn =
     subst (IsCheckStep seen w c.loop-check.check) c.in-GoesOn.is c.loop-check.invariant.turn in
     record {
@@ -49,6 +48,6 @@ loop-check-preserved g c =
 pub returns-in-Over-clause-verdict : goal.returns-in-Over-clause-verdict
 returns-in-Over-clause-verdict g c =
     let m = g.W.Walker in
-    let seen = seen_by m.world m.position m.asked m.learnt in
-    let w = m.world c.args.walk in
+    let seen = m.seen in
+    let w = (m.seen c.args.walk).world in
     subst (IsCheckStep seen w c.loop-check.check) c.in-Over.is c.loop-check.invariant.turn

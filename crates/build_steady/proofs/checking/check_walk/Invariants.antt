@@ -1,6 +1,5 @@
 use Rattle.std.proofs.Common.{◌≡◌, ◌-◌, ◌^◌}
 use mathlib.Core.List.{IsPrefix}
-use Rattle.build_scheduler.specs.Own.{seen_by}
 use Rattle.build_steady.specs.Held.{IsCheckStep}
 use Rattle.build_steady.proofs.checking.check_walk.Given as goal
 
@@ -8,10 +7,10 @@ abbrev pub invariant-loop-check : goal.invariant-loop-check
 invariant-loop-check g l =
     let m = g.W.Walker in
     record {
-      turn : IsCheckStep (seen_by m.world m.position m.asked m.learnt) (m.world l.fn.walk) l.check
+      turn : IsCheckStep m.seen (m.seen l.fn.walk).world l.check
           l.next;
       front : IsPrefix (m.used l.initial.place) (m.used l.place);
-      place : m.Fits l.place (m.world l.fn.walk);
+      place : m.Fits l.place (m.seen l.fn.walk).world;
       lent : m.lent l.place ≡ m.lent l.initial.place;
     }
 

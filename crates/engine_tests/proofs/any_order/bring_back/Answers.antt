@@ -1,6 +1,5 @@
 use Rattle.std.proofs.Common.{drop, subst}
 use Rattle.build_meaning.specs.History.{AreOfOthers}
-use Rattle.build_scheduler.specs.Own.{seen_by}
 use Rattle.engine_tests.proofs.Others.{still-own}
 use Rattle.engine_tests.proofs.any_order.bring_back.Goals as goal
 
@@ -11,6 +10,5 @@ answer_ask-requires-clause-own g c =
     let asking = c.args.asking in
     let others = subst (λ events. AreOfOthers asking.id (drop asking.number events))
     c.history.ensures.events (c.are_of_others.ensures c.if-are_of_others.true) in
-    still-own (m.world_of core.world) core.legal asking.id asking.number
-    (seen_by m.world m.position m.asked m.learnt asking.walk) asking.ask c.requires.asking
-    others
+    still-own (m.world_of core.world) core.legal asking.id asking.number (m.seen asking.walk)
+    asking.ask c.requires.asking others

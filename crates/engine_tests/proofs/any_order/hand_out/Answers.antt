@@ -1,7 +1,7 @@
 use Rattle.std.proofs.Common.{List, sym, subst, ◌∙◌}
 use Rattle.build_meaning.specs.declared.event.Event.{Event}
 use Rattle.build_meaning.specs.declared.event.Event.TheVariants.{Assign}
-use Rattle.build_scheduler.specs.Own.{IsOut, seen_by}
+use Rattle.build_scheduler.specs.Own.{IsOut}
 use Rattle.build_scheduler.specs.Ready.{IsReady}
 use Rattle.engine_tests.proofs.Others.{assigned-continues, repeated-continues, repeated-none}
 use Rattle.engine_tests.proofs.any_order.hand_out.Goals as goal
@@ -39,6 +39,6 @@ returns-else-is_repeated-clause-next g c =
     let m = g.W.Walker in
     let after = c.assign-walk.new.self in
     let walk = c.assign-walk.result.0 in
-    subst (λ w. ∥ IsOut w after.history.events after.table.finished c.args.id
-    (seen_by m.world m.position m.asked m.learnt walk) c.assign-walk.result.1 ∥₁)
-    (c.assign-walk.ensures.world ∙ c.is_repeated.ensures.world) c.assign-walk.ensures.out
+    subst (λ w. ∥ IsOut w after.history.events after.table.finished c.args.id (m.seen walk)
+    c.assign-walk.result.1 ∥₁) (c.assign-walk.ensures.world ∙ c.is_repeated.ensures.world)
+    c.assign-walk.ensures.out

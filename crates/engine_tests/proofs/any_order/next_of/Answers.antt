@@ -1,5 +1,4 @@
 use Rattle.std.proofs.Common.{All, sym, subst}
-use Rattle.build_scheduler.specs.Own.{seen_by}
 use Rattle.engine_tests.specs.Trials.{IsAsking}
 use Rattle.engine_tests.proofs.Others.{all-removed, asks-on}
 use Rattle.engine_tests.proofs.any_order.next_of.Goals as goal
@@ -10,17 +9,12 @@ returns-then-at-len-clause-out g c =
     let core = c.args.core.now in
     let after = c.bring_back.new.core in
     let there = c.bring_back.ensures in
-    subst
-    (All
-    (λ a. IsAsking (m.world_of after.world) after.history.events a.id a.number
-    (seen_by m.world m.position m.asked m.learnt a.walk) a.ask))
-    (sym c.remove-asking.ensures.items)
+    subst (All (λ a. IsAsking (m.world_of after.world) after.history.events a.id a.number
+    (m.seen a.walk) a.ask)) (sym c.remove-asking.ensures.items)
     (λ k d lt. asks-on (m.world_of core.world) (m.world_of after.world) core.history.events
     after.history.events _ _ _ _ there.world ∣ there.continues ∣₁
-    (all-removed
-    (λ a. IsAsking (m.world_of core.world) core.history.events a.id a.number
-    (seen_by m.world m.position m.asked m.learnt a.walk) a.ask) c.args.out.now.items _
-    c.requires.out k d lt))
+    (all-removed (λ a. IsAsking (m.world_of core.world) core.history.events a.id a.number
+    (m.seen a.walk) a.ask) c.args.out.now.items _ c.requires.out k d lt))
 
 pub returns-else-at-len-clause-out : goal.returns-else-at-len-clause-out
 returns-else-at-len-clause-out g c =

@@ -29,7 +29,9 @@ build_walk-requires-send-W-Place g c κs within =
 pub build_walk-requires-clause-fits : goal.build_walk-requires-clause-fits
 build_walk-requires-clause-fits g c κs within =
     let tools = g.T.CountedTools.answer in
-    subst (λ w. All (λ context. Suits tools context.world.now context.instances w) c.in_ok-contexts.contexts.items)
+    subst
+    (λ w. All (λ context. Suits tools context.world.now context.instances w)
+    c.in_ok-contexts.contexts.items)
     (sym c.in_ok-walk.ensures.world) c.in_ok-contexts.ensures.suit
 
 pub build_walk-requires-clause-begins : goal.build_walk-requires-clause-begins

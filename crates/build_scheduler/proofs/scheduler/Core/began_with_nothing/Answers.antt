@@ -1,7 +1,6 @@
 use Rattle.std.proofs.Common.{◌∙◌, Some, ap, arith, subst, sym}
 use Rattle.build_meaning.specs.Lists.{at}
 use Rattle.build_scheduler.specs.Kept.{KnowsNothing}
-use Rattle.build_scheduler.specs.Own.{seen_by}
 use Rattle.build_scheduler.proofs.OverAtOnce.{caller-slot}
 use Rattle.build_scheduler.proofs.Served.{one-caller}
 use Rattle.build_scheduler.proofs.SlotNumbers.{at-get}
@@ -11,17 +10,16 @@ pub index-requires-in-Some : goal.index-requires-in-Some
 index-requires-in-Some g c =
     let m = g.W.Walker in
     let self = c.args.self.now in
-    let l = caller-slot (seen_by m.world m.position m.asked m.learnt) (m.world_of self.world)
-    self.legal c.args.id c.in-Some.caller c.index.result.now self.nested
-    (at-get self.origins.items c.args.id c.index.result.now c.requires.there
-    ∙ ap Some (sym c.index.ensures)) c.in-Some.is in
+    let l = caller-slot m.seen (m.world_of self.world) self.legal c.args.id c.in-Some.caller
+    c.index.result.now self.nested (at-get self.origins.items c.args.id c.index.result.now
+    c.requires.there ∙ ap Some (sym c.index.ensures)) c.in-Some.is in
     omega (arith, l, self.slots.ok.0)
 
 pub returns-in-Some : goal.returns-in-Some
 returns-in-Some g c =
     let m = g.W.Walker in
     let self = c.args.self.now in
-    let seen = seen_by m.world m.position m.asked m.learnt in
+    let seen = m.seen in
     let mine = c.index.result.now in
     let here = at-get self.origins.items c.args.id mine c.requires.there
     ∙ ap Some (sym c.index.ensures) in

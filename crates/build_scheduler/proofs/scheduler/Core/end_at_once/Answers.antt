@@ -20,7 +20,7 @@ use Rattle.build_meaning.specs.declared.event.Event.TheVariants.{Assign}
 use Rattle.build_history.specs.Repeated.{uses_of_all}
 use Rattle.build_scheduler.specs.declared.walker.Ask.TheVariants.{Done as IsOver}
 use Rattle.build_scheduler.specs.Kept.{EndsAlike, repeats}
-use Rattle.build_scheduler.specs.Own.{Asks, IsOwn, seen_by}
+use Rattle.build_scheduler.specs.Own.{Asks, IsOwn}
 use Rattle.build_scheduler.proofs.Behind.{behind-same}
 use Rattle.build_scheduler.proofs.HistoryRoom.{active-same}
 use Rattle.build_scheduler.proofs.OverAtOnce.{
@@ -40,7 +40,7 @@ invariant_of-self g c =
     let m = g.W.Walker in
     let self = c.args.self.now in
     record {
-      legal = ∥∥₁_map self.legal (λ x. room-shown (seen_by m.world m.position m.asked m.learnt)
+      legal = ∥∥₁_map self.legal (λ x. room-shown m.seen
           (m.world_of self.world) c.reserve.ensures.events (room-kept c.reserve.result
           self.history.room c.reserve.new.self.room c.len.result c.reserve.ensures.ok
           c.reserve.ensures.err) refl refl refl x);
@@ -52,7 +52,7 @@ invariant_of-self g c =
       nested = self.nested;
       stops = ∣ none-stops (m.world_of self.world) _ c.requires.running ∣₁;
       kept_so = self.kept_so;
-      behind = behind-same (seen_by m.world m.position m.asked m.learnt) (m.world_of self.world)
+      behind = behind-same m.seen (m.world_of self.world)
           c.reserve.ensures.events refl self.behind;
     }
 
@@ -60,7 +60,7 @@ pub use_all-before-requires-clause-ends : goal.use_all-before-requires-clause-en
 use_all-before-requires-clause-ends g c =
     let m = g.W.Walker in
     let self = c.args.self.now in
-    let seen = seen_by m.world m.position m.asked m.learnt in
+    let seen = m.seen in
     let w = m.world_of self.world in
     let claims = ap (λ (v : Vec RunId Global). v.items) c.parts-claims.ensures.claims in
     let count = ap (λ (v : Vec RunId Global). length v.items) c.parts-claims.ensures.claims in
@@ -75,12 +75,12 @@ use_all-before-requires-clause-ends g c =
       count,
     )))
 
-pub done-left-requires-clause-own : goal.done-left-requires-clause-own
-done-left-requires-clause-own g c =
+pub finish_request-left-requires-clause-own : goal.finish_request-left-requires-clause-own
+finish_request-left-requires-clause-own g c =
     let m = g.W.Walker in
     let self = c.args.self.now in
     let next = c.use_all-before.new.self in
-    let seen = seen_by m.world m.position m.asked m.learnt in
+    let seen = m.seen in
     let w = m.world_of self.world in
     let claims = ap (λ (v : Vec RunId Global). v.items) c.parts-claims.ensures.claims in
     let is = c.use_all-before.ensures.history
@@ -95,12 +95,12 @@ done-left-requires-clause-own g c =
     (over-own seen w self.history.events self.table.finished c.args.id c.args.node c.args.end
     c.requires.comes next.history.events next.table.finished is))
 
-pub done-left-requires-clause-asks : goal.done-left-requires-clause-asks
-done-left-requires-clause-asks g c =
+pub finish_request-left-requires-clause-asks : goal.finish_request-left-requires-clause-asks
+finish_request-left-requires-clause-asks g c =
     let m = g.W.Walker in
     let self = c.args.self.now in
     let next = c.use_all-before.new.self in
-    let seen = seen_by m.world m.position m.asked m.learnt in
+    let seen = m.seen in
     let w = m.world_of self.world in
     let claims = ap (λ (v : Vec RunId Global). v.items) c.parts-claims.ensures.claims in
     let is = c.use_all-before.ensures.history
@@ -119,27 +119,27 @@ pub returns-clause-end : goal.returns-clause-end
 returns-clause-end g c =
     let m = g.W.Walker in
     let self = c.args.self.now in
-    c.done-left.ensures.others (other-request (seen_by m.world m.position m.asked m.learnt)
-    (m.world_of self.world) self.history.events self.table.finished c.args.id c.args.node
-    c.args.end c.requires.comes) ∙ sym c.requires.running
+    c.finish_request-left.ensures.others
+    (other-request m.seen (m.world_of self.world) self.history.events
+    self.table.finished c.args.id c.args.node c.args.end c.requires.comes) ∙ sym c.requires.running
 
 pub returns-clause-repeated : goal.returns-clause-repeated
 returns-clause-repeated g c =
     let m = g.W.Walker in
     let self = c.args.self.now in
     let claims = ap (λ (v : Vec RunId Global). v.items) c.parts-claims.ensures.claims in
-    repeats-so (seen_by m.world m.position m.asked m.learnt) (m.world_of self.world)
-    self.history.events self.table.finished c.args.id c.args.node c.args.end c.requires.comes
-    c.done-left.new.self.history.events
+    repeats-so m.seen (m.world_of self.world) self.history.events self.table.finished c.args.id
+    c.args.node c.args.end c.requires.comes c.finish_request-left.new.self.history.events
     (all-events self.history.events c.reserve.new.self.events
-    c.use_all-before.new.self.history.events c.done-left.new.self.history.events c.args.id
+    c.use_all-before.new.self.history.events c.finish_request-left.new.self.history.events c.args.id
     c.args.node c.parts-claims.result.0.items c.reserve.ensures.events
-    c.use_all-before.ensures.history c.done-left.ensures.history
-    ∙ ap (λ (runs : List RunId). self.history.events ++ repeats c.args.id c.args.node runs) claims)
+    c.use_all-before.ensures.history c.finish_request-left.ensures.history
+    ∙ ap (λ (runs : List RunId).
+    self.history.events ++ repeats c.args.id c.args.node runs) claims)
 
 pub invariant_of-self-2 : goal.invariant_of-self-2
 invariant_of-self-2 g c =
-    let self = c.done-left.new.self in
+    let self = c.finish_request-left.new.self in
     record {
       legal = self.legal;
       indexed = self.indexed;

@@ -4,7 +4,6 @@ use Rattle.std.specs.Prelude.{vec_len}
 use Rattle.build_meaning.specs.Meaning.{most_instances}
 use Rattle.build_meaning.specs.declared.event.Event.TheVariants.{Request}
 use Rattle.build_scheduler.specs.Instances.{IsOver, with_all}
-use Rattle.build_scheduler.specs.Own.{seen_by}
 use Rattle.build_scheduler.proofs.Behind.{behind-event, kept-entered}
 use Rattle.build_scheduler.proofs.Entering.{
   absent-beyond,
@@ -30,7 +29,7 @@ returns-in-Err-TooMany-clause-requested g c =
     rw c.in-Err-TooMany.field-0-is (
       refl,
       refl,
-      many-refused (seen_by m.world m.position m.asked m.learnt) (m.world_of self.world) c.args.id
+      many-refused m.seen (m.world_of self.world) c.args.id
           c.args.walk c.args.calls self.legal c.requires.own c.requires.asks
           n.depth n.has_depth n.not_deep self.instances self.counted c.in-Err-TooMany.instance
           (subst (λ cs. IsOver self.instances cs c.in-Err-TooMany.instance) c.as_slice.ensures
@@ -54,22 +53,21 @@ pub enter_all-requires-clause-there : goal.enter_all-requires-clause-there
 enter_all-requires-clause-there g c =
     let m = g.W.Walker in
     let self = c.args.self.now in
-    slot-there (seen_by m.world m.position m.asked m.learnt) (m.world_of self.world) c.args.id
-    c.args.walk self.legal c.requires.own
+    slot-there m.seen (m.world_of self.world) c.args.id c.args.walk self.legal c.requires.own
 
 pub enter_all-requires-clause-slot_room : goal.enter_all-requires-clause-slot_room
 enter_all-requires-clause-slot_room g c =
     let m = g.W.Walker in
     let self = c.args.self.now in
-    let k = children-many (seen_by m.world m.position m.asked m.learnt) c.args.id c.args.walk
-    c.args.calls c.args.children c.requires.children in
+    let k = children-many m.seen c.args.id c.args.walk c.args.calls c.args.children
+    c.requires.children in
     omega (arith, c.requires.slot_room)
 
 pub invariant_of-self-in-Ok : goal.invariant_of-self-in-Ok
 invariant_of-self-in-Ok g c =
     let m = g.W.Walker in
     let self = c.args.self.now in
-    let seen = seen_by m.world m.position m.asked m.learnt in
+    let seen = m.seen in
     let w = m.world_of self.world in
     let n : vec_len self.slots ≡ length self.slots.items = search rules in
     let e = c.enter_all.ensures in

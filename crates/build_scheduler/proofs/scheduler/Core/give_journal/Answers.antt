@@ -1,7 +1,6 @@
 use Rattle.std.proofs.Common.{refl, subst, sym}
 use Rattle.std.proofs.Math.Logic.{∥∥₁_elim, ∥∥₁_map}
 use Rattle.build_scheduler.specs.Learnt.{AreInOrder}
-use Rattle.build_scheduler.specs.Own.{seen_by}
 use Rattle.build_scheduler.proofs.HandedBack.{handed-back, none-first}
 use Rattle.build_scheduler.proofs.HistoryFacts.{in_order-prop, table_in_order}
 use Rattle.build_scheduler.proofs.Passing.{
@@ -17,8 +16,7 @@ pub parent_of-requires : goal.parent_of-requires
 parent_of-requires g c =
     let m = g.W.Walker in
     let self = c.args.self.now in
-    caller-there (seen_by m.world m.position m.asked m.learnt)
-    (m.world_of self.world) c.args.id self.legal c.requires.over
+    caller-there m.seen (m.world_of self.world) c.args.id self.legal c.requires.over
 
 pub pass_journal-requires-clause-in_order : goal.pass_journal-requires-clause-in_order
 pass_journal-requires-clause-in_order g c =
@@ -31,7 +29,7 @@ pub pass_journal-requires-clause-can : goal.pass_journal-requires-clause-can
 pass_journal-requires-clause-can g c =
     let m = g.W.Walker in
     let self = c.args.self.now in
-    let seen = seen_by m.world m.position m.asked m.learnt in
+    let seen = m.seen in
     can-take seen (m.world_of self.world) c.args.id
     (seen c.args.walk) c.in-Some.caller c.in-Some.ensures self.legal c.requires.own c.requires.over
 
@@ -39,7 +37,7 @@ pub invariant_of-self : goal.invariant_of-self
 invariant_of-self g c =
     let m = g.W.Walker in
     let self = c.args.self.now in
-    let seen = seen_by m.world m.position m.asked m.learnt in
+    let seen = m.seen in
     let w = m.world_of self.world in
     let passed = c.pass_journal.ensures.passed in
     record {
@@ -63,7 +61,7 @@ returns-in-None-clause-left g c =
     let m = g.W.Walker in
     let self = c.args.self.now in (
       refl,
-      none-first (seen_by m.world m.position m.asked m.learnt) (m.world_of self.world) c.args.id
+      none-first m.seen (m.world_of self.world) c.args.id
           c.in-None.ensures self.legal,
     )
 
@@ -71,6 +69,5 @@ pub returns-in-Some-clause-left : goal.returns-in-Some-clause-left
 returns-in-Some-clause-left g c =
     let m = g.W.Walker in
     let self = c.args.self.now in
-    handed-back (seen_by m.world m.position m.asked m.learnt) (m.world_of self.world) c.args.id
-    c.in-Some.caller c.args.walk c.pass_journal.result c.in-Some.ensures self.legal
-    c.pass_journal.ensures.left
+    handed-back m.seen (m.world_of self.world) c.args.id c.in-Some.caller c.args.walk
+    c.pass_journal.result c.in-Some.ensures self.legal c.pass_journal.ensures.left

@@ -6,7 +6,6 @@ use Rattle.build_meaning.specs.Lists.{at}
 use Rattle.build_meaning.specs.Plain.{IsPlain}
 use Rattle.build_scheduler.specs.declared.slot.Origin.{Origin}
 use Rattle.build_scheduler.specs.Kept.{IsEndOf, MayServe}
-use Rattle.build_scheduler.specs.Own.{seen_by}
 use Rattle.build_scheduler.specs.Position.{HasEnded}
 use Rattle.build_scheduler.proofs.OverAtOnce.{kept-new, own-there}
 use Rattle.build_scheduler.proofs.scheduler.Core.keep.Goals as goal
@@ -15,8 +14,7 @@ pub end_of-requires-clause-there : goal.end_of-requires-clause-there
 end_of-requires-clause-there g c =
     let m = g.W.Walker in
     let self = c.args.self.now in
-    own-there (seen_by m.world m.position m.asked m.learnt) (m.world_of self.world) self.legal
-    c.args.id c.args.walk.now c.requires.own
+    own-there m.seen (m.world_of self.world) self.legal c.args.id c.args.walk.now c.requires.own
 
 pub end_of-requires-clause-asked : goal.end_of-requires-clause-asked
 end_of-requires-clause-asked g c = ∥∥₁_elim c.requires.own (λ p q. le_prop p q) (λ o. o.asked)
@@ -28,15 +26,15 @@ pub invariant_of-self : goal.invariant_of-self
 invariant_of-self g c =
     let m = g.W.Walker in
     let self = c.args.self.now in
-    let seen = seen_by m.world m.position m.asked m.learnt in
+    let seen = m.seen in
     let walk = c.args.walk.now in
     let ensures = c.in_ok-kept.ensures in
     let is = subst (λ o. IfSome o (λ end. IsEndOf seen self.slots.items self.origins.items
-    c.args.id walk (m.plain_for walk) c.args.told.now end)) c.in-Some.is ensures.is in
+    c.args.id walk (m.plain_for walk) c.args.request_result.now end)) c.in-Some.is ensures.is in
     let serves = subst (λ o. OnSome o (MayServe seen self.slots.items self.origins.items self.kept
     c.args.id (m.plain_for walk))) c.in-Some.is ensures.serves in
-    let plain = subst (λ o. IfSome o (λ end. end.plain ≡ true → (origin : Origin) →
-    at self.origins.items c.args.id ≡ Some origin → IsPlain (m.world walk) origin.key))
+    let plain = subst (λ o. IfSome o (λ end. end.plain ≡ true → (origin : Origin)
+    → at self.origins.items c.args.id ≡ Some origin → IsPlain (m.seen walk).world origin.key))
     c.in-Some.is ensures.plain in
     record {
       legal = self.legal;
@@ -47,7 +45,7 @@ invariant_of-self g c =
       nested = self.nested;
       stops = self.stops;
       kept_so = kept-new seen (m.world_of self.world) self.legal self.kept c.put.new.self
-          c.args.id walk c.args.told.now c.in-Some.kept c.requires.own c.requires.asks
+          c.args.id walk c.args.request_result.now c.in-Some.kept c.requires.own c.requires.asks
           serves.called is.whose is.result is.stands (λ n. is.nothing.0 n) plain c.put.ensures
           self.kept_so;
       behind = self.behind;
@@ -57,11 +55,11 @@ pub returns-in-Some-clause-keeps : goal.returns-in-Some-clause-keeps
 returns-in-Some-clause-keeps g c =
     let m = g.W.Walker in
     let self = c.args.self.now in
-    let seen = seen_by m.world m.position m.asked m.learnt in
+    let seen = m.seen in
     let walk = c.args.walk.now in
     let ensures = c.in_ok-kept.ensures in
     let is = subst (λ o. IfSome o (λ end. IsEndOf seen self.slots.items self.origins.items
-    c.args.id walk (m.plain_for walk) c.args.told.now end)) c.in-Some.is ensures.is in
+    c.args.id walk (m.plain_for walk) c.args.request_result.now end)) c.in-Some.is ensures.is in
     let serves = subst (λ o. OnSome o (MayServe seen self.slots.items self.origins.items self.kept
     c.args.id (m.plain_for walk))) c.in-Some.is ensures.serves in
     record {

@@ -1,6 +1,5 @@
 use Rattle.std.proofs.Common.{◌∙◌, Some, ap, arith, subst, sym}
 use Rattle.build_scheduler.specs.Free.{AreFree, NeedsNothing}
-use Rattle.build_scheduler.specs.Own.{seen_by}
 use Rattle.build_scheduler.proofs.FreeCalls.{bodies-there, calls-there, needs-other}
 use Rattle.build_scheduler.proofs.SlotNumbers.{at-get}
 use Rattle.build_scheduler.proofs.scheduler.Core.needs_nothing.Goals as goal
@@ -11,15 +10,15 @@ are_free-requires-clause-there g c =
     let self = c.args.self.now in
     let here = at-get self.slots.items c.args.by c.index.result.now c.requires
     ∙ ap Some (sym c.index.ensures ∙ c.in-Calling.is) in
-    let l = calls-there (seen_by m.world m.position m.asked m.learnt) (m.world_of self.world)
-    self.legal self.indexed c.args.by c.in-Calling.calls here in
+    let l = calls-there m.seen (m.world_of self.world) self.legal self.indexed c.args.by
+    c.in-Calling.calls here in
     omega (arith, l, c.len.ensures, c.in-Calling.calls.results.ok.0)
 
 pub are_free-requires-clause-bodies : goal.are_free-requires-clause-bodies
 are_free-requires-clause-bodies g c =
     let m = g.W.Walker in
     let self = c.args.self.now in
-    bodies-there (seen_by m.world m.position m.asked m.learnt) (m.world_of self.world) self.legal
+    bodies-there m.seen (m.world_of self.world) self.legal
 
 pub returns-in-Calling : goal.returns-in-Calling
 returns-in-Calling g c free =

@@ -2,7 +2,6 @@ use Rattle.std.proofs.Common.{◌∷◌, ◌==◌, ◌∙◌, [], ap, refl, sym,
 use Rattle.build_meaning.specs.History.{AreOfNodes, retires}
 use Rattle.build_scheduler.specs.History.{History}
 use Rattle.build_scheduler.specs.Numbers.{Numbered, among}
-use Rattle.build_scheduler.specs.Own.{seen_by}
 use Rattle.build_scheduler.proofs.Behind.{behind-start}
 use Rattle.build_scheduler.proofs.Beginning.{shown-start, indexed-start, counted-root, few-root}
 use Rattle.build_scheduler.proofs.Nesting.{nested-root}
@@ -16,7 +15,7 @@ invariant_of-result g c =
     let parts = c.parts-history.ensures in
     let events = ap (λ (log : History). log.events) parts.history ∙ opening.events in
     record {
-      legal = ∣ shown-start (seen_by m.world m.position m.asked m.learnt) c.args.walk c.args.root
+      legal = ∣ shown-start m.seen c.args.walk c.args.root
           c.origin-world.ensures c.requires.key c.requires.begins c.requires.asked c.requires.learnt
           events
           (ap (λ (log : History). log.room) parts.history ∙ opening.room)
@@ -36,6 +35,6 @@ invariant_of-result g c =
       nested = ∣ nested-root c.args.root c.in_ok-origins.ensures ∣₁;
       stops = ∣ tt ∣₁;
       kept_so = ∣ (λ kept i. absurd (none-kept _ kept c.in_ok-new.ensures i)) ∣₁;
-      behind = ∣ behind-start (seen_by m.world m.position m.asked m.learnt) _ c.args.walk events
+      behind = ∣ behind-start m.seen _ c.args.walk events
           c.in_ok-slots.ensures ∣₁;
     }

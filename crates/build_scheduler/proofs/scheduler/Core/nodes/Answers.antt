@@ -1,6 +1,5 @@
 use Rattle.std.proofs.Common.{refl, arith}
 use Rattle.std.proofs.Math.Logic.{∥∥₁_map}
-use Rattle.build_scheduler.specs.Own.{seen_by}
 use Rattle.build_scheduler.proofs.Behind.{behind-same}
 use Rattle.build_scheduler.proofs.Rooms.{room-shown, room-stops}
 use Rattle.build_scheduler.proofs.scheduler.Core.nodes.Goals as goal
@@ -9,7 +8,7 @@ pub invariant_of-self : goal.invariant_of-self
 invariant_of-self g c =
     let m = g.W.Walker in
     let self = c.args.self.now in
-    let seen = seen_by m.world m.position m.asked m.learnt in
+    let seen = m.seen in
     let w = m.world_of self.world in
     let set = c.set_nodes.ensures in
     record {

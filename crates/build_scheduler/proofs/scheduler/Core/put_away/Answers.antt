@@ -3,7 +3,6 @@ use Rattle.std.proofs.Math.Logic.{∥∥₁_elim, ∥∥₁_map, ∥∥₁_map�
 use Rattle.build_meaning.specs.declared.event.Event.TheVariants.{Claim}
 use Rattle.build_meaning.specs.declared.event.ClaimKind.TheVariants.{Wait}
 use Rattle.build_scheduler.specs.declared.slot.Slot.TheVariants.{Waiting}
-use Rattle.build_scheduler.specs.Own.{seen_by}
 use Rattle.build_scheduler.proofs.Behind.{behind-event, behind-same, kept-put}
 use Rattle.build_scheduler.proofs.Entering.{slot-there}
 use Rattle.build_scheduler.proofs.OwnWalks.{there-of}
@@ -17,28 +16,27 @@ pub wait_room-requires : goal.wait_room-requires
 wait_room-requires g c =
     let m = g.W.Walker in
     let self = c.args.self.now in
-    begun-there (seen_by m.world m.position m.asked m.learnt) (m.world_of self.world) c.args.run.now
-    c.args.by self.legal self.indexed c.requires.begun c.requires.unfinished
+    begun-there m.seen (m.world_of self.world) c.args.run.now c.args.by self.legal self.indexed
+    c.requires.begun c.requires.unfinished
 
 pub list_waiting-requires-clause-absent : goal.list_waiting-requires-clause-absent
 list_waiting-requires-clause-absent g c =
     let m = g.W.Walker in
     let self = c.args.self.now in
-    unlisted (seen_by m.world m.position m.asked m.learnt) (m.world_of self.world) c.args.id
-    c.args.walk c.args.by self.legal self.indexed c.requires.own c.wait_room.ensures.same
+    unlisted m.seen (m.world_of self.world) c.args.id c.args.walk c.args.by self.legal self.indexed
+    c.requires.own c.wait_room.ensures.same
 
 pub put_slot-requires : goal.put_slot-requires
 put_slot-requires g c =
     let m = g.W.Walker in
     let self = c.args.self.now in
-    slot-there (seen_by m.world m.position m.asked m.learnt) (m.world_of self.world) c.args.id
-    c.args.walk self.legal c.requires.own
+    slot-there m.seen (m.world_of self.world) c.args.id c.args.walk self.legal c.requires.own
 
 pub invariant_of-self : goal.invariant_of-self
 invariant_of-self g c =
     let m = g.W.Walker in
     let self = c.args.self.now in
-    let seen = seen_by m.world m.position m.asked m.learnt in
+    let seen = m.seen in
     let w = m.world_of self.world in
     let legal = ∥∥₁_map₂ self.legal c.requires.own
     (λ x o. waited-shown seen w self.history c.push.new.self c.args.id c.args.walk
@@ -51,11 +49,11 @@ invariant_of-self g c =
     record {
       legal = legal;
       indexed = ∥∥₁_elim self.legal ∥∥₁_prop
-          (λ x. ∥∥₁_elim c.requires.own ∥∥₁_prop (λ o. ∥∥₁_map self.indexed (λ y.
-          waits-indexed c.args.id c.args.walk c.args.by
-          (there-of seen w x c.args.id (m.position c.args.walk) o.stands).node
-          (there-of seen w x c.args.id (m.position c.args.walk) o.stands).at_slots
-          c.wait_room.ensures.same c.list_waiting.ensures c.put_slot.ensures y)));
+          (λ x. ∥∥₁_elim c.requires.own ∥∥₁_prop (λ o. ∥∥₁_map self.indexed (λ y. waits-indexed
+          c.args.id c.args.walk c.args.by (there-of seen w x c.args.id (m.seen c.args.walk).position
+          o.stands).node (there-of seen w x c.args.id (m.seen c.args.walk).position
+          o.stands).at_slots c.wait_room.ensures.same c.list_waiting.ensures c.put_slot.ensures
+          y)));
       counted = self.counted;
       active = c.push.ensures.active;
       few = self.few;
@@ -74,7 +72,7 @@ pub invariant_of-self-in-Err : goal.invariant_of-self-in-Err
 invariant_of-self-in-Err g c =
     let m = g.W.Walker in
     let self = c.args.self.now in
-    let seen = seen_by m.world m.position m.asked m.learnt in
+    let seen = m.seen in
     let w = m.world_of self.world in
     record {
       legal = ∥∥₁_map self.legal

@@ -4,7 +4,6 @@ use Rattle.build_meaning.specs.declared.event.Event.TheVariants.{Retire}
 use Rattle.build_meaning.proofs.ListPlaces.{at-less}
 use Rattle.build_scheduler.specs.declared.slot.End.TheVariants.{NoMemory}
 use Rattle.build_scheduler.specs.declared.slot.Slot.TheVariants.{Assigned, Ready}
-use Rattle.build_scheduler.specs.Own.{seen_by}
 use Rattle.build_scheduler.proofs.Behind.{behind-event, behind-same, kept-put}
 use Rattle.build_scheduler.proofs.Retiring.{assigned-to, back-indexed, node-there}
 use Rattle.build_scheduler.proofs.Retiring.{retired-shown, unlisted-there}
@@ -16,7 +15,7 @@ pub node_of-node-requires : goal.node_of-node-requires
 node_of-node-requires g c =
     let m = g.W.Walker in
     let self = c.args.self.now in
-    let seen = seen_by m.world m.position m.asked m.learnt in
+    let seen = m.seen in
     node-there seen (m.world_of self.world) c.args.id c.args.walk c.args.answer self.legal
     c.requires.out
 
@@ -39,7 +38,7 @@ pub invariant_of-self : goal.invariant_of-self
 invariant_of-self g c =
     let m = g.W.Walker in
     let self = c.args.self.now in
-    let seen = seen_by m.world m.position m.asked m.learnt in
+    let seen = m.seen in
     let w = m.world_of self.world in
     let id = c.args.id in
     let walk = c.args.walk in
@@ -69,7 +68,7 @@ pub returns-then-retire-clause-retired : goal.returns-then-retire-clause-retired
 returns-then-retire-clause-retired g c =
     let m = g.W.Walker in
     let self = c.args.self.now in
-    let seen = seen_by m.world m.position m.asked m.learnt in
+    let seen = m.seen in
     let w = m.world_of self.world in
     let node = c.node_of-node.result in
     let was = c.node_of-node.ensures in
@@ -81,7 +80,7 @@ pub invariant_of-self-else-retire : goal.invariant_of-self-else-retire
 invariant_of-self-else-retire g c =
     let m = g.W.Walker in
     let self = c.args.self.now in
-    let seen = seen_by m.world m.position m.asked m.learnt in
+    let seen = m.seen in
     let w = m.world_of self.world in
     let kept = c.if-retire.ensures.retired in
     record {

@@ -1,5 +1,4 @@
 use Rattle.std.proofs.Math.Logic.{∥∥₁_map}
-use Rattle.build_scheduler.specs.Own.{seen_by}
 use Rattle.build_scheduler.proofs.Stopping.{shows-stop, stopped-shown}
 use Rattle.build_scheduler.proofs.scheduler.Core.stop.Goals as goal
 
@@ -9,8 +8,7 @@ invariant_of-self g c =
     let self = c.args.self.now in
     record {
       legal = ∥∥₁_map self.legal
-          (λ x. stopped-shown (seen_by m.world m.position m.asked m.learnt) (m.world_of self.world)
-          c.args.end c.requires.shown x);
+          (λ x. stopped-shown m.seen (m.world_of self.world) c.args.end c.requires.shown x);
       indexed = self.indexed;
       counted = self.counted;
       active = self.active;

@@ -1,7 +1,6 @@
 use Rattle.std.proofs.Common.{refl, sym, subst, map, arith}
 use Rattle.std.proofs.Math.Logic.{∥∥₁_map}
 use Rattle.build_scheduler.specs.Instances.{AreCounted, instance_asked}
-use Rattle.build_scheduler.specs.Own.{seen_by}
 use Rattle.build_scheduler.specs.Shown.{AreNested}
 use Rattle.build_scheduler.proofs.Behind.{behind-same}
 use Rattle.build_scheduler.proofs.HistoryRoom.{active-same}
@@ -21,7 +20,7 @@ pub invariant_of-self : goal.invariant_of-self
 invariant_of-self g c =
     let m = g.W.Walker in
     let self = c.args.self.now in
-    let seen = seen_by m.world m.position m.asked m.learnt in
+    let seen = m.seen in
     let w = m.world_of self.world in
     let r = c.reserve_all.ensures in
     record {
@@ -43,7 +42,7 @@ pub invariant_of-self-in-Break-branch-3 : goal.invariant_of-self-in-Break-branch
 invariant_of-self-in-Break-branch-3 g c =
     let m = g.W.Walker in
     let self = c.args.self.now in
-    let seen = seen_by m.world m.position m.asked m.learnt in
+    let seen = m.seen in
     let w = m.world_of self.world in
     let r = c.reserve_all.ensures in
     record {
@@ -66,7 +65,7 @@ pub invariant_of-self-in-Break-branch-4 : goal.invariant_of-self-in-Break-branch
 invariant_of-self-in-Break-branch-4 g c =
     let m = g.W.Walker in
     let self = c.args.self.now in
-    let seen = seen_by m.world m.position m.asked m.learnt in
+    let seen = m.seen in
     let w = m.world_of self.world in
     let r = c.reserve_all.ensures in
     record {
@@ -89,7 +88,7 @@ pub invariant_of-self-2 : goal.invariant_of-self-2
 invariant_of-self-2 g c =
     let m = g.W.Walker in
     let self = c.args.self.now in
-    let seen = seen_by m.world m.position m.asked m.learnt in
+    let seen = m.seen in
     let w = m.world_of self.world in
     let r = c.reserve_all.ensures in
     record {
@@ -120,7 +119,7 @@ pub returns-clause-spare : goal.returns-clause-spare
 returns-clause-spare g c =
     let m = g.W.Walker in
     let self = c.args.self.now in
-    let seen = seen_by m.world m.position m.asked m.learnt in
+    let seen = m.seen in
     let w = m.world_of self.world in
     ∥∥₁_map self.legal (λ x. spare-of seen w c.reserve-3.ensures.events c.args.count
     c.in_ok-events.events c.in_ok-reserve-3.ensures.ok c.in_ok-events.ensures x)

@@ -2,7 +2,6 @@ use Rattle.std.proofs.Common.{◌∙◌, sym, subst}
 use Rattle.std.proofs.Math.Logic.{∥∥₁_elim, ∥∥₁_map₂, ∥∥₁_prop}
 use Rattle.build_history.specs.Repeated.{uses_of_all}
 use Rattle.build_scheduler.specs.Kept.{EndsAlike}
-use Rattle.build_scheduler.specs.Own.{seen_by}
 use Rattle.build_scheduler.proofs.OverAtOnce.{assigned-uses, uses-room}
 use Rattle.build_scheduler.proofs.Repeating.{uses-behind, uses-shown}
 use Rattle.build_scheduler.proofs.Stopping.{none-stops}
@@ -22,7 +21,7 @@ invariant_of-self g c =
     let m = g.W.Walker in
     let old = c.args.self.now in
     let self = c.assign-walk.new.self in
-    let seen = seen_by m.world m.position m.asked m.learnt in
+    let seen = m.seen in
     let w = m.world_of self.world in
     let ends = subst (λ w. ∥ EndsAlike w old.history c.args.id c.args.node c.args.claims.items ∥₁)
     (sym c.assign-walk.ensures.world) c.requires.ends in
