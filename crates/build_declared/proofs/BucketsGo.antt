@@ -20,8 +20,9 @@ use Rattle.build_incremental.proofs.Moves.{seen-append}
 use Rattle.task_trait.specs.declared.tools.ToolAnswer.{ToolAnswer}
 use Rattle.task_trait.specs.declared.tools.ToolInput.{ToolInput}
 use Rattle.target_body.specs.Work.{Work, unless_stopped, each_in_turn}
-use Rattle.target_body.specs.States.{Run, State, Stopped, state_at, state_of, entered, outcome_of}
+use Rattle.target_body.specs.States.{Run, State, Stopped, progress_at, entered, outcome_of}
 use Rattle.target_body.specs.Pieces.{lists_at, choice_of, bucket_by}
+use Rattle.build_declared.proofs.PartEnds.{progress_in}
 use Rattle.build_declared.specs.Chosen.{all_of}
 use Rattle.build_declared.specs.Written.{bytes_in, AnyPath}
 use Rattle.build_declared.specs.Ends.{End, end_of}
@@ -65,7 +66,7 @@ module _ (tools : List ℕ → ToolInput → ToolAnswer) (id : RunId) (run : Run
 
   -- two ends of buckets: both come to an end, and so it goes on, or both have stopped
   abbrev pub StopsAlike : (d e : Stopped) → List Act → List Act → Type 0
-  StopsAlike d e ps pt = ((state_at d).changes ≡ (state_at e).changes) × LacksOnly T j ps pt
+  StopsAlike d e ps pt = ((progress_at d).changes ≡ (progress_at e).changes) × LacksOnly T j ps pt
 
   abbrev pub EndsAlike : Result State Stopped → Result State Stopped → List Act → List Act → Type 0
   EndsAlike (Ok s) (Ok t) ps pt = Carry s t ps pt
@@ -91,7 +92,7 @@ module _ (tools : List ℕ → ToolInput → ToolAnswer) (id : RunId) (run : Run
 
   -- one bucket goes alike, where notes are as Fine says, and pieces of the clean run as S says
   abbrev pub IsFine : (Note → Type 0) → Result State Stopped → Type 0
-  IsFine Fine r = (note : Note) → In note (state_of r).notes → Fine note
+  IsFine Fine r = (note : Note) → In note (progress_in r).notes → Fine note
 
   abbrev pub AreSo : (Piece → Type 0) → List Piece → Type 0
   AreSo S pieces = (p : Piece) → In p pieces → S p
@@ -110,13 +111,13 @@ module _ (tools : List ℕ → ToolInput → ToolAnswer) (id : RunId) (run : Run
       (buckets : List Bucket) (r : Result State Stopped) (l : Journal) (qs : List Act)
       (E : End (Result State Stopped)) →
       end_of tools id (unless_stopped r (each_in_turn part buckets)) l qs ≡ Some E →
-      (note : Note) → In note (state_of r).notes → In note (state_of E.value).notes
+      (note : Note) → In note (progress_in r).notes → In note (progress_in E.value).notes
   rest-keeps part f buckets (Ok s) l qs E h note i =
       keeps-each tools id part f buckets s l qs E h note i
   rest-keeps part f buckets (Err d) l qs E h note i =
       let same : record { value = Err d; journal = l; acts = qs } ≡ E =
       some-same (record { value = Err d; journal = l; acts = qs }) E h in
-      subst (λ (z : End (Result State Stopped)). In note (state_of z.value).notes) same i
+      subst (λ (z : End (Result State Stopped)). In note (progress_in z.value).notes) same i
 
   module _ (mode : Mode) (Fine : Note → Type 0) (S : Piece → Type 0)
       (goes : BucketGoes mode Fine S)

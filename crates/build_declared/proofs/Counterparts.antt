@@ -70,7 +70,7 @@ use Rattle.target_body.specs.States.{
   entered,
   or_stop,
   outcome_of,
-  place_in,
+  context_in,
   view_of,
   run_at,
 }
@@ -506,9 +506,9 @@ module _ (run : Run) where
       go : (b : Bool) → (b ≡ true → TakesLists run.target) →
           (b ≡ false → TakesLists run.target → ⊥) → NeverNone ⊎ TakesNone
       go true y n = inl (λ bucket s e.
-          lists-there (in_target (place_in run s s.scope) bucket) run.target (y refl) e)
+          lists-there (in_target (context_in run s s.scope) bucket) run.target (y refl) e)
       go false y n = inr (λ bucket s.
-          no-lists (in_target (place_in run s s.scope) bucket) run.target
+          no-lists (in_target (context_in run s s.scope) bucket) run.target
           (attribute_of (codes "Inputs") run.target.element)
           (attribute_of (codes "Outputs") run.target.element) refl refl (n refl))
 
@@ -595,10 +595,10 @@ module _ (tools : List ℕ → ToolInput → ToolAnswer) (files : List File) (ta
           (pieces_of tools id (choice_of mode run) run scope j) q
 
     abbrev pub found_w : Result (List Bucket) EvalFault
-    found_w = target_buckets (place_in run s0 scope) target.element
+    found_w = target_buckets (context_in run s0 scope) target.element
 
     abbrev pub found_c : Result (List Bucket) EvalFault
-    found_c = target_buckets (place_in run t0 scope) target.element
+    found_c = target_buckets (context_in run t0 scope) target.element
 
     pub buckets-same : found_w ≡ found_c
     buckets-same = ap (λ l. target_buckets (item_context l id.instance.path scope) target.element)

@@ -17,7 +17,6 @@ use Rattle.std.proofs.Common.{
   None,
   Some,
   map,
-  fold,
   ◌≤◌,
   ◌||◌,
   arith,
@@ -40,8 +39,6 @@ use Rattle.msb_values.specs.declared.act.Act.{Act}
 use Rattle.msb_elements.specs.Nodes.{name_of}
 use Rattle.msb_expand.specs.declared.lens.Bucket.{Bucket}
 use Rattle.msb_expand.specs.Reserved.{folder_of}
-use Rattle.result_cache.specs.declared.request.RequestKey.{RequestKey}
-use Rattle.result_cache.specs.declared.request.RequestResult.{RequestResult}
 use Rattle.result_cache.specs.declared.record.Decision.{Decision}
 use Rattle.result_cache.specs.Journal.{Journal, add, acted, act_of, has, content}
 use Rattle.build_world.specs.Elements.{At, children_of}
@@ -61,9 +58,6 @@ use Rattle.task_trait.specs.declared.tools.ToolAnswer.TheVariants.{Unknown, Made
 use Rattle.task_trait.specs.declared.tools.ToolInput.{ToolInput}
 use Rattle.task_kit.specs.Foreign.{foreign_input, foreign_output}
 use Rattle.task_kit.specs.Tasks.{answer}
-use Rattle.task_msbuild.specs.Plans.{plan_of, has_stopped}
-use Rattle.task_msbuild.specs.Gathered.{gathered}
-use Rattle.task_msbuild.specs.declared.plans.Plan.{Plan}
 use Rattle.target_incremental.specs.declared.decision.Choice.{Choice}
 use Rattle.target_incremental.specs.declared.decision.Choice.TheVariants.{
   Run as RunAll,
@@ -78,47 +72,33 @@ use Rattle.target_texts.specs.Inferred.{task_of, inferred_at}
 use Rattle.target_texts.specs.Parameters.{task_buckets}
 use Rattle.target_texts.specs.Returned.{returns_of, returned_items}
 use Rattle.target_texts.specs.OnErrors.{notes_by, as_warning}
-use Rattle.target_body.specs.Work.{
-  Work,
-  done,
-  calls,
-  followed_by,
-  unless_stopped,
-  and_then,
-  each_in_turn,
-}
+use Rattle.msb_items.specs.Items.{with_list}
+use Rattle.target_body.specs.Work.{Work, done, followed_by, unless_stopped, and_then, each_in_turn}
 use Rattle.target_body.specs.States.{
-  with_change,
-  with_part,
-  part_after,
-  part_after_all,
   Run,
   State,
   Stopped,
   faulted,
   failed,
-  with_journal,
   with_act,
   with_notes,
   with_items,
   with_decision,
   with_changes,
-  with_changes_seen,
-  without_scope,
+  after_group,
+  stop_at,
   settled,
   or_stop,
   stopped_by,
   taken,
-  task_scope,
   view_of,
-  place_in,
-  state_of,
+  context_in,
+  Progress,
+  progress_of,
 }
 use Rattle.target_body.specs.Answers.{
   all_acted,
   given,
-  at_once,
-  in_order,
   msbuild,
   tool,
   not_built_in,
@@ -126,7 +106,7 @@ use Rattle.target_body.specs.Answers.{
   answered,
 }
 use Rattle.target_body.specs.Tasks.{
-  called_place,
+  call_context,
   ended_by,
   outputs_if,
   answered_to,
@@ -138,6 +118,7 @@ use Rattle.target_body.specs.Tasks.{
   inferred,
   then_inferred,
   task,
+  still_failed,
 }
 use Rattle.target_body.specs.Children.{
   group,
@@ -152,23 +133,30 @@ use Rattle.target_body.specs.Children.{
 }
 use Rattle.target_body.specs.Returned.{items_if, returned}
 use Rattle.target_body.specs.Pieces.{treated, on_old, word_of, decided}
+use Rattle.build_declared.proofs.PartEnds.{progress_in}
 use Rattle.build_declared.specs.Declared.{IsNotTooLarge}
 use Rattle.build_declared.specs.Written.{bytes_in, AnyPath}
 use Rattle.build_declared.specs.Ends.{End, end_of}
-use Rattle.build_declared.proofs.Alones.{some-same, end-bound, KeepsNotes, keeps-each}
+use Rattle.build_declared.proofs.Alones.{
+  some-same,
+  end-bound,
+  KeepsNotes,
+  keeps-each,
+  msbuild-end,
+  uncalled,
+}
 use Rattle.build_declared.proofs.Looks.{looks-same}
 use Rattle.build_declared.proofs.NotesStay.{
-  Has,
   taken-has,
   ended-has,
   and-has,
-  settled-has,
   over,
-  then-has,
   word-has,
   returned-has,
   call-keeps,
   child-keeps,
+  still-has,
+  inferred-has,
 }
 use Rattle.build_incremental.proofs.Numbered.{numbered, has-above}
 use Rattle.build_incremental.proofs.Entries.{has-append}
@@ -190,7 +178,6 @@ use Rattle.task_kit.proofs.OtherWritten.{
 use Rattle.msb_values.specs.declared.note.Note.{Note}
 use Rattle.task_trait.specs.Failures.{failure_text}
 use Rattle.task_trait.specs.declared.failures.Failure.TheVariants.{TooLarge}
-use Rattle.msb_values.specs.Changes.{applied}
 
 module _ (tools : List ℕ → ToolInput → ToolAnswer) (id : RunId) (run : Run) (j k : Journal)
     (fw : HasNotActed id j) (fc : HasNotActed id k) where
@@ -200,7 +187,7 @@ module _ (tools : List ℕ → ToolInput → ToolAnswer) (id : RunId) (run : Run
   -- the same, but for what was written, noted and decided before
   pub record Cousin (s t : State) (ps pt : List Act) : Type 0 where
     pub scope : s.scope ≡ t.scope
-    pub part : s.part ≡ t.part
+    pub task_scope : s.task_scope ≡ t.task_scope
     pub unseen : s.unseen ≡ t.unseen
     pub items : s.items ≡ t.items
     pub changes : s.changes ≡ t.changes
@@ -208,9 +195,16 @@ module _ (tools : List ℕ → ToolInput → ToolAnswer) (id : RunId) (run : Run
     pub c_is : t.journal ≡ numbered id pt ++ k
     pub alike : AlikeJournals T AnyPath s.journal t.journal
 
+  -- and so where a fault has stopped both
+  pub record CousinFault (p q : Progress) (ps pt : List Act) : Type 0 where
+    pub changes : p.changes ≡ q.changes
+    pub w_is : p.journal ≡ numbered id ps ++ j
+    pub c_is : q.journal ≡ numbered id pt ++ k
+    pub alike : AlikeJournals T AnyPath p.journal q.journal
+
   abbrev pub CousinEnd : Result State Stopped → Result State Stopped → List Act → List Act → Type 0
   CousinEnd (Ok s) (Ok t) ps pt = Cousin s t ps pt
-  CousinEnd (Err (faulted s)) (Err (faulted t)) ps pt = Cousin s t ps pt
+  CousinEnd (Err (faulted p)) (Err (faulted q)) ps pt = CousinFault p q ps pt
   CousinEnd (Err (failed s)) (Err (failed t)) ps pt = Cousin s t ps pt
   CousinEnd r q ps pt = ⊥
 
@@ -218,7 +212,7 @@ module _ (tools : List ℕ → ToolInput → ToolAnswer) (id : RunId) (run : Run
   Fine notes = (note : Note) → In note notes → IsNotTooLarge tools id run note
 
   abbrev pub journal_of : Result State Stopped → Journal
-  journal_of r = (state_of r).journal
+  journal_of r = (progress_in r).journal
 
   -- both are at an end, and have done the same since
   pub record BothEnd (ps pt : List Act) (E F : End (Result State Stopped)) : Type 0 where
@@ -233,24 +227,21 @@ module _ (tools : List ℕ → ToolInput → ToolAnswer) (id : RunId) (run : Run
       Type 0
   Both s t v u = (ps pt : List Act) → Cousin s t ps pt → (E F : End (Result State Stopped)) →
       end_of tools id v s.journal ps ≡ Some E → end_of tools id u t.journal pt ≡ Some F →
-      Fine (state_of E.value).notes → Fine (state_of F.value).notes → BothEnd ps pt E F
+      Fine (progress_in E.value).notes → Fine (progress_in F.value).notes → BothEnd ps pt E F
 
   -- ---- places
 
   place-same : (s t : State) (ps pt : List Act) → Cousin s t ps pt →
-      place_in run s s.scope ≡ place_in run t t.scope
+      context_in run s s.scope ≡ context_in run t t.scope
   place-same s t ps pt h = ap (λ l. item_context l run.instance.path s.scope)
       ((looks-same run.files AnyPath).paths s.journal t.journal h.alike)
-      ∙ ap (place_in run t) h.scope
-
-  scopes-same : (s t : State) (ps pt : List Act) → Cousin s t ps pt → task_scope s ≡ task_scope t
-  scopes-same s t ps pt h = ap (λ p. with_part p s.scope) h.part ∙ ap (with_part t.part) h.scope
+      ∙ ap (context_in run t) h.scope
 
   tasks-same : (s t : State) (ps pt : List Act) → Cousin s t ps pt →
-      place_in run s (task_scope s) ≡ place_in run t (task_scope t)
-  tasks-same s t ps pt h = ap (λ l. item_context l run.instance.path (task_scope s))
+      context_in run s s.task_scope ≡ context_in run t t.task_scope
+  tasks-same s t ps pt h = ap (λ l. item_context l run.instance.path s.task_scope)
       ((looks-same run.files AnyPath).paths s.journal t.journal h.alike)
-      ∙ ap (place_in run t) (scopes-same s t ps pt h)
+      ∙ ap (context_in run t) h.task_scope
 
   -- ---- parts that are over, and parts in turn
 
@@ -296,12 +287,12 @@ module _ (tools : List ℕ → ToolInput → ToolAnswer) (id : RunId) (run : Run
           (r : Result State Stopped) (l : Journal) (qs : List Act)
           (E : End (Result State Stopped)) →
           end_of tools id (unless_stopped r part) l qs ≡ Some E → (note : Note) →
-          In note (state_of r).notes → In note (state_of E.value).notes
+          In note (progress_in r).notes → In note (progress_in E.value).notes
       rest part h (Ok x) l qs E e note i = h x l qs E e note i
       rest part h (Err d) l qs E e note i =
           let same : record { value = Err d; journal = l; acts = qs } ≡ E =
           some-same (record { value = Err d; journal = l; acts = qs }) E e in
-          subst (λ (z : End (Result State Stopped)). In note (state_of z.value).notes) same i
+          subst (λ (z : End (Result State Stopped)). In note (progress_in z.value).notes) same i
 
       stop : (d e : Stopped) (l m : Journal) (qs qt : List Act) → CousinEnd (Err d) (Err e) qs qt →
           journal_of (Err d) ≡ l → journal_of (Err e) ≡ m → (new : List Act) → qs ≡ new ++ ps →
@@ -369,13 +360,9 @@ module _ (tools : List ℕ → ToolInput → ToolAnswer) (id : RunId) (run : Run
 
   -- a text is read, and then what follows
   noted : (note : Note) (s t : State) (ps pt : List Act) → Cousin s t ps pt →
-      Cousin (with_notes (note ∷ []) s) (with_notes (note ∷ []) t) ps pt
+      CousinFault (progress_of (with_notes (note ∷ []) s)) (progress_of (with_notes (note ∷ []) t))
+      ps pt
   noted note s t ps pt c = record {
-    scope = c.scope;
-    part = c.part;
-    unseen = c.unseen;
-    items =
-        c.items;
     changes = c.changes;
     w_is = c.w_is;
     c_is = c.c_is;
@@ -390,17 +377,16 @@ module _ (tools : List ℕ → ToolInput → ToolAnswer) (id : RunId) (run : Run
       subst (λ (z : Result X EvalFault). (E F : End (Result State Stopped)) →
       end_of tools id (unless_stopped (or_stop s x) next) s.journal ps ≡ Some E →
       end_of tools id (unless_stopped (or_stop t z) then) t.journal pt ≡ Some F →
-      Fine (state_of E.value).notes → Fine (state_of F.value).notes → BothEnd ps pt E F)
+      Fine (progress_in E.value).notes → Fine (progress_in F.value).notes → BothEnd ps pt E F)
       (same ps pt c) (go x)
     where
       go : (z : Result X EvalFault) → (E F : End (Result State Stopped)) →
           end_of tools id (unless_stopped (or_stop s z) next) s.journal ps ≡ Some E →
           end_of tools id (unless_stopped (or_stop t z) then) t.journal pt ≡ Some F →
-          Fine (state_of E.value).notes → Fine (state_of F.value).notes → BothEnd ps pt E F
+          Fine (progress_in E.value).notes → Fine (progress_in F.value).notes → BothEnd ps pt E F
       go (Ok z) = f z ps pt c
       go (Err fault) =
-          over-both s t (Err (faulted (with_notes (Fail (fault_text fault) ∷ []) s)))
-          (Err (faulted (with_notes (Fail (fault_text fault) ∷ []) t)))
+          over-both s t (Err (stop_at fault s)) (Err (stop_at fault t))
           (noted (Fail (fault_text fault)) s t) refl refl ps pt c
 
   -- ---- what is made in a state
@@ -412,7 +398,7 @@ module _ (tools : List ℕ → ToolInput → ToolAnswer) (id : RunId) (run : Run
       changed : Cousin (with_changes m.changes s) (with_changes m.changes t) ps pt
       changed = record {
         scope = c.scope;
-        part = c.part;
+        task_scope = c.task_scope;
         unseen =
             ap (λ l. l ++ m.changes) c.unseen;
         items = c.items;
@@ -441,7 +427,7 @@ module _ (tools : List ℕ → ToolInput → ToolAnswer) (id : RunId) (run : Run
       Cousin (with_notes ns s) (with_notes ms t) ps pt
   notes-both ns ms s t ps pt c = record {
     scope = c.scope;
-    part = c.part;
+    task_scope = c.task_scope;
     unseen = c.unseen;
     items =
         c.items;
@@ -521,7 +507,7 @@ module _ (tools : List ℕ → ToolInput → ToolAnswer) (id : RunId) (run : Run
       (with_act act (add t.journal (acted id (length pt) act)) t) (act ∷ ps) (act ∷ pt) =
       record {
         scope = c.scope;
-        part = c.part;
+        task_scope = c.task_scope;
         unseen = c.unseen;
         items = c.items;
         changes = c.changes;
@@ -665,74 +651,12 @@ module _ (tools : List ℕ → ToolInput → ToolAnswer) (id : RunId) (run : Run
       (tools-alike name s.written t.written (tools name input)) s t ps pt c E F he hf
   tool-both name (Err failure) s t = output-over s t (failed_output name failure)
 
-  -- an MSBuild task that calls nothing
-  once-both : (plan : Plan) (keys : List RequestKey) (s t : State) →
-      AnswerBoth s t (followed_by (at_once keys s) (λ x. done (x.0, gathered plan x.1)))
-      (followed_by (at_once keys t) (λ x. done (x.0, gathered plan x.1)))
-  once-both plan [] s t = output-over s t (gathered plan [])
-  once-both plan (key ∷ keys) s t = λ ps pt c E F he hf fe ff. absurd (cc)
-
-  order-both : (plan : Plan) (answers : List RequestResult) (keys : List RequestKey) (s t : State) →
-      AnswerBoth s t (followed_by (in_order plan answers keys s)
-      (λ x. done (x.0, gathered plan x.1))) (followed_by (in_order plan answers keys t)
-      (λ x. done (x.0, gathered plan x.1)))
-  order-both plan answers [] s t = output-over s t (gathered plan answers)
-  order-both plan answers (key ∷ keys) s t = go (has_stopped plan answers)
-    where
-      go : (b : Bool) → AnswerBoth s t
-          (followed_by (elim b [
-            | true ↦ done (s, answers)
-            | false ↦ calls key [] (λ more journal.
-                in_order plan (answers ++ more) keys (with_journal journal s))
-          ])
-          (λ x. done (x.0, gathered plan x.1)))
-          (followed_by (elim b [
-            | true ↦ done (t, answers)
-            | false ↦ calls key [] (λ more journal.
-                in_order plan (answers ++ more) keys (with_journal journal t))
-          ])
-          (λ x. done (x.0, gathered plan x.1)))
-      go true = output-over s t (gathered plan answers)
-      go false = λ ps pt c E F he hf fe ff. absurd (cc)
-
   msbuild-both : (params : List Param) (s t : State) →
       AnswerBoth s t (msbuild run s params) (msbuild run t params)
-  msbuild-both params s t = go plan.parallel
-    where
-      plan : Plan
-      plan = plan_of run.files (folder_of run.instance.path) run.instance.globals params
-
-      go : (b : Bool) → AnswerBoth s t
-          (followed_by (elim b [
-            | true ↦ at_once (plan_of run.files
-                (folder_of run.instance.path) run.instance.globals params).calls s
-            | false ↦ in_order (plan_of run.files (folder_of run.instance.path)
-                run.instance.globals params) [] (plan_of run.files
-                (folder_of run.instance.path) run.instance.globals params).calls s
-          ])
-          (λ x. done (
-            x.0,
-            gathered (plan_of run.files
-                (folder_of run.instance.path) run.instance.globals params) x.1,
-          )))
-          (followed_by (elim b [
-            | true ↦ at_once (plan_of run.files
-                (folder_of run.instance.path) run.instance.globals params).calls t
-            | false ↦ in_order (plan_of run.files (folder_of run.instance.path)
-                run.instance.globals params) [] (plan_of run.files
-                (folder_of run.instance.path) run.instance.globals params).calls t
-          ])
-          (λ x. done (
-            x.0,
-            gathered (plan_of run.files
-                (folder_of run.instance.path) run.instance.globals params) x.1,
-          )))
-      go true = once-both (plan_of run.files (folder_of run.instance.path) run.instance.globals
-          params) (plan_of run.files (folder_of run.instance.path) run.instance.globals
-          params).calls s t
-      go false = order-both (plan_of run.files (folder_of run.instance.path) run.instance.globals
-          params) [] (plan_of run.files (folder_of run.instance.path) run.instance.globals
-          params).calls s t
+  msbuild-both params s t = λ ps pt c E F he hf.
+      output-over s t (uncalled run params) ps pt c E F
+      (msbuild-end tools id run s params s.journal ps E he)
+      (msbuild-end tools id run t params t.journal pt F hf)
 
   built-both : (b : Bool) (name : List ℕ) (params : List Param) (s t : State) →
       AnswerBoth s t (not_built_in b run s name params) (not_built_in b run t name params)
@@ -828,7 +752,7 @@ module _ (tools : List ℕ → ToolInput → ToolAnswer) (id : RunId) (run : Run
   and-journal (Err d) f g = refl
 
   call-place : (s t : State) (bucket : Bucket) (ps pt : List Act) → Cousin s t ps pt →
-      called_place run s bucket ≡ called_place run t bucket
+      call_context run s bucket ≡ call_context run t bucket
   call-place s t bucket ps pt c = ap (λ p. in_bucket p bucket) (tasks-same s t ps pt c)
 
   answered-to : (e : At) (gives : Bool) (bucket : Bucket) (on_error : OnError) (s t : State)
@@ -839,35 +763,36 @@ module _ (tools : List ℕ → ToolInput → ToolAnswer) (id : RunId) (run : Run
       let ns = notes_by on_error o.notes in
       let x = with_notes ns s in
       let y = with_notes ns t in
-      and-ends (taken (outputs_if gives (called_place run s bucket) o.outputs e) x)
-      (taken (outputs_if gives (called_place run t bucket) o.outputs e) y)
+      and-ends (taken (outputs_if gives (call_context run s bucket) o.outputs e) x)
+      (taken (outputs_if gives (call_context run t bucket) o.outputs e) y)
       (ended_by on_error o.ok) (ended_by on_error o.ok) ps pt
-      (subst (λ m. CousinEnd (taken (outputs_if gives (called_place run s bucket) o.outputs e) x)
+      (subst (λ m. CousinEnd (taken (outputs_if gives (call_context run s bucket) o.outputs e) x)
       (taken m y) ps pt) (ap (λ p. outputs_if gives p o.outputs e)
       (call-place s t bucket ps pt c))
-      (taken-both (outputs_if gives (called_place run s bucket) o.outputs e) x y ps pt
+      (taken-both (outputs_if gives (call_context run s bucket) o.outputs e) x y ps pt
       (notes-both ns ns s t ps pt c)))
       (λ a b d. ended-both on_error o.ok a b ps pt d)
 
   answered-journal : (r : Run) (e : At) (gives : Bool) (bucket : Bucket) (on_error : OnError)
       (x : State × TaskOutput) → journal_of (answered_to r e gives bucket on_error x) ≡ x.0.journal
   answered-journal r e gives bucket on_error x =
-      and-journal (taken (outputs_if gives (called_place r x.0 bucket) x.1.outputs e)
+      and-journal (taken (outputs_if gives (call_context r x.0 bucket) x.1.outputs e)
       (with_notes (notes_by on_error x.1.notes) x.0)) (ended_by on_error x.1.ok)
       (ended-journal on_error x.1.ok)
-      ∙ taken-journal (outputs_if gives (called_place r x.0 bucket) x.1.outputs e)
+      ∙ taken-journal (outputs_if gives (call_context r x.0 bucket) x.1.outputs e)
       (with_notes (notes_by on_error x.1.notes) x.0)
 
   -- its notes are among those of the end
   answered-notes : (r : Run) (e : At) (gives : Bool) (bucket : Bucket) (on_error : OnError)
-      (x : State × TaskOutput) → Fine (state_of (answered_to r e gives bucket on_error x)).notes →
+      (x : State × TaskOutput) → Fine (progress_in (answered_to r e gives bucket on_error x)).notes
+      →
       Fine x.1.notes
   answered-notes r e gives bucket on_error x f =
       let s = with_notes (notes_by on_error x.1.notes) x.0 in
       fine-notes on_error x.1.notes (λ note i. f note
-      (and-has s (taken (outputs_if gives (called_place r x.0 bucket) x.1.outputs e) s)
+      (and-has s (taken (outputs_if gives (call_context r x.0 bucket) x.1.outputs e) s)
       (ended_by on_error x.1.ok) (taken-has (outputs_if gives
-      (called_place r x.0 bucket) x.1.outputs e) s) (ended-has on_error x.1.ok) note
+      (call_context r x.0 bucket) x.1.outputs e) s) (ended-has on_error x.1.ok) note
       (in-right note x.0.notes (notes_by on_error x.1.notes) i)))
 
   with-both : (e : At) (gives : Bool) (bucket : Bucket) (s t : State)
@@ -905,9 +830,9 @@ module _ (tools : List ℕ → ToolInput → ToolAnswer) (id : RunId) (run : Run
             y.0.acts;
       }) F y.2 in
       let fx : Fine x.0.value.1.notes = answered-notes run e gives bucket ready.0 x.0.value
-      (subst (λ (z : End (Result State Stopped)). Fine (state_of z.value).notes) (sym ex) fe) in
+      (subst (λ (z : End (Result State Stopped)). Fine (progress_in z.value).notes) (sym ex) fe) in
       let fy : Fine y.0.value.1.notes = answered-notes run e gives bucket ready.0 y.0.value
-      (subst (λ (z : End (Result State Stopped)). Fine (state_of z.value).notes) (sym ey) ff) in
+      (subst (λ (z : End (Result State Stopped)). Fine (progress_in z.value).notes) (sym ey) ff) in
       let b = if-both name e ready.1 s t ps pt c x.0 y.0 x.1 y.1 fx fy in
       subst (λ z. BothEnd ps pt z F) ex (subst (BothEnd ps pt (record {
         value =
@@ -930,8 +855,8 @@ module _ (tools : List ℕ → ToolInput → ToolAnswer) (id : RunId) (run : Run
   call-both : (e : At) (gives : Bool) (bucket : Bucket) (s t : State) →
       Both s t (call run e gives bucket s) (call run e gives bucket t)
   call-both e gives bucket s t =
-      read-both s t (readied (called_place run s bucket) e)
-      (readied (called_place run t bucket) e) (called_with run e gives bucket s)
+      read-both s t (readied (call_context run s bucket) e)
+      (readied (call_context run t bucket) e) (called_with run e gives bucket s)
       (called_with run e gives bucket t)
       (λ ps pt c. ap (λ p. readied p e) (call-place s t bucket ps pt c))
       (with-both e gives bucket s t)
@@ -939,8 +864,8 @@ module _ (tools : List ℕ → ToolInput → ToolAnswer) (id : RunId) (run : Run
   called-both : (e : At) (gives : Bool) (s t : State) →
       Both s t (called run e gives s) (called run e gives t)
   called-both e gives s t =
-      read-both s t (task_buckets (place_in run s (task_scope s)) e)
-      (task_buckets (place_in run t (task_scope t)) e)
+      read-both s t (task_buckets (context_in run s s.task_scope) e)
+      (task_buckets (context_in run t t.task_scope) e)
       (λ buckets. each_in_turn (call run e gives) buckets s)
       (λ buckets. each_in_turn (call run e gives) buckets t)
       (λ ps pt c. ap (λ p. task_buckets p e) (tasks-same s t ps pt c))
@@ -953,22 +878,22 @@ module _ (tools : List ℕ → ToolInput → ToolAnswer) (id : RunId) (run : Run
   inferred-both e s t ps pt c =
       subst (λ m. CousinEnd (inferred run e s) (taken m t) ps pt)
       (ap (λ p. inferred_at p e) (place-same s t ps pt c))
-      (taken-both (inferred_at (place_in run s s.scope) e) s t ps pt c)
+      (taken-both (inferred_at (context_in run s s.scope) e) s t ps pt c)
 
   inferred-journal : (r : Run) (e : At) (s : State) → journal_of (inferred r e s) ≡ s.journal
-  inferred-journal r e s = taken-journal (inferred_at (place_in r s s.scope) e) s
+  inferred-journal r e s = taken-journal (inferred_at (context_in r s s.scope) e) s
 
-  state-both : (r q : Result State Stopped) (ps pt : List Act) → CousinEnd r q ps pt →
-      Cousin (state_of r) (state_of q) ps pt
-  state-both (Ok s) (Ok t) ps pt c = c
-  state-both (Ok s) (Err (faulted e)) ps pt c = absurd c
-  state-both (Ok s) (Err (failed e)) ps pt c = absurd c
-  state-both (Err (faulted d)) (Ok t) ps pt c = absurd c
-  state-both (Err (failed d)) (Ok t) ps pt c = absurd c
-  state-both (Err (faulted d)) (Err (faulted e)) ps pt c = c
-  state-both (Err (failed d)) (Err (failed e)) ps pt c = c
-  state-both (Err (faulted d)) (Err (failed e)) ps pt c = absurd c
-  state-both (Err (failed d)) (Err (faulted e)) ps pt c = absurd c
+  still-both : (r q : Result State Stopped) (ps pt : List Act) → CousinEnd r q ps pt →
+      CousinEnd (still_failed r) (still_failed q) ps pt
+  still-both (Ok s) (Ok t) ps pt c = c
+  still-both (Ok s) (Err (faulted e)) ps pt c = absurd c
+  still-both (Ok s) (Err (failed e)) ps pt c = absurd c
+  still-both (Err (faulted d)) (Ok t) ps pt c = absurd c
+  still-both (Err (failed d)) (Ok t) ps pt c = absurd c
+  still-both (Err (faulted d)) (Err (faulted e)) ps pt c = c
+  still-both (Err (failed d)) (Err (failed e)) ps pt c = c
+  still-both (Err (faulted d)) (Err (failed e)) ps pt c = absurd c
+  still-both (Err (failed d)) (Err (faulted e)) ps pt c = absurd c
 
   then-inferred : (e : At) (r q : Result State Stopped) (ps pt : List Act) → CousinEnd r q ps pt →
       CousinEnd (then_inferred run e r) (then_inferred run e q) ps pt
@@ -979,14 +904,18 @@ module _ (tools : List ℕ → ToolInput → ToolAnswer) (id : RunId) (run : Run
   then-inferred e (Err (failed d)) (Ok t) ps pt c = absurd c
   then-inferred e (Err (faulted s)) (Err (faulted t)) ps pt c = c
   then-inferred e (Err (failed s)) (Err (failed t)) ps pt c =
-      state-both (inferred run e s) (inferred run e t) ps pt (inferred-both e s t ps pt c)
+      still-both (inferred run e s) (inferred run e t) ps pt (inferred-both e s t ps pt c)
   then-inferred e (Err (faulted d)) (Err (failed f)) ps pt c = absurd c
   then-inferred e (Err (failed d)) (Err (faulted f)) ps pt c = absurd c
+
+  still-journal : (r : Result State Stopped) → journal_of (still_failed r) ≡ journal_of r
+  still-journal (Ok t) = refl
+  still-journal (Err d) = refl
 
   then-journal : (r : Run) (e : At) (q : Result State Stopped) →
       journal_of (then_inferred r e q) ≡ journal_of q
   then-journal r e (Ok t) = inferred-journal r e t
-  then-journal r e (Err (failed t)) = inferred-journal r e t
+  then-journal r e (Err (failed t)) = still-journal (inferred r e t) ∙ inferred-journal r e t
   then-journal r e (Err (faulted t)) = refl
 
   -- a part whose end is looked at
@@ -995,8 +924,8 @@ module _ (tools : List ℕ → ToolInput → ToolAnswer) (id : RunId) (run : Run
       CousinEnd r q ps pt → CousinEnd (f r) (g q) ps pt) →
       ((r : Result State Stopped) → journal_of (f r) ≡ journal_of r) →
       ((r : Result State Stopped) → journal_of (g r) ≡ journal_of r) →
-      ((r : Result State Stopped) → Fine (state_of (f r)).notes → Fine (state_of r).notes) →
-      ((r : Result State Stopped) → Fine (state_of (g r)).notes → Fine (state_of r).notes) →
+      ((r : Result State Stopped) → Fine (progress_in (f r)).notes → Fine (progress_in r).notes) →
+      ((r : Result State Stopped) → Fine (progress_in (g r)).notes → Fine (progress_in r).notes) →
       Both s t (followed_by v (λ end. done (f end))) (followed_by u (λ end. done (g end)))
   then-both s t v u f g h m jf jg nf ng ps pt c E F he hf fe ff =
       let x = end-bound tools id v (λ end. done (f end)) s.journal ps E he in
@@ -1016,8 +945,8 @@ module _ (tools : List ℕ → ToolInput → ToolAnswer) (id : RunId) (run : Run
             y.0.acts;
       }) F y.2 in
       let b = h ps pt c x.0 y.0 x.1 y.1 (nf x.0.value
-      (subst (λ (z : End (Result State Stopped)). Fine (state_of z.value).notes) (sym ex) fe))
-      (ng y.0.value (subst (λ (z : End (Result State Stopped)). Fine (state_of z.value).notes)
+      (subst (λ (z : End (Result State Stopped)). Fine (progress_in z.value).notes) (sym ex) fe))
+      (ng y.0.value (subst (λ (z : End (Result State Stopped)). Fine (progress_in z.value).notes)
       (sym ey) ff)) in
       subst (λ z. BothEnd ps pt z F) ex (subst (BothEnd ps pt (record {
         value =
@@ -1033,12 +962,12 @@ module _ (tools : List ℕ → ToolInput → ToolAnswer) (id : RunId) (run : Run
         c_acts = b.c_acts;
       }))
 
-  has-self : (r : Result State Stopped) → Has (state_of r) r
-  has-self r note i = i
-
   fine-then : (q : Run) (e : At) (r : Result State Stopped) →
-      Fine (state_of (then_inferred q e r)).notes → Fine (state_of r).notes
-  fine-then q e r f note i = f note (then-has tools id q e (state_of r) r (has-self r) note i)
+      Fine (progress_in (then_inferred q e r)).notes → Fine (progress_in r).notes
+  fine-then q e (Ok t) f note i = f note (inferred-has tools id q e t note i)
+  fine-then q e (Err (failed t)) f note i =
+      f note (still-has t (inferred q e t) (inferred-has tools id q e t) note i)
+  fine-then q e (Err (faulted p)) f note i = f note i
 
   task-both : (choice : Choice) (e : At) (s t : State) →
       Both s t (task run choice e s) (task run choice e t)
@@ -1056,16 +985,17 @@ module _ (tools : List ℕ → ToolInput → ToolAnswer) (id : RunId) (run : Run
   group-both : (e : At) (s t : State) (ps pt : List Act) → Cousin s t ps pt →
       CousinEnd (group run e s) (group run e t) ps pt
   group-both e s t ps pt c =
-      subst (λ x. CousinEnd (group run e s) (map_ok (λ changes. with_changes_seen changes t)
-      (or_stop (without_scope t) x)) ps pt) (ap (λ p. group_changes p e)
-      (place-same s t ps pt c)) (go (group_changes (place_in run s s.scope) e))
+      subst
+      (λ x. CousinEnd (group run e s) (map_ok (λ changes. after_group changes t) (or_stop t x))
+      ps pt) (ap (λ p. group_changes p e) (place-same s t ps pt c))
+      (go (group_changes (context_in run s s.scope) e))
     where
       go : (x : Result (List Change) EvalFault) →
-          CousinEnd (map_ok (λ changes. with_changes_seen changes s) (or_stop (without_scope s) x))
-          (map_ok (λ changes. with_changes_seen changes t) (or_stop (without_scope t) x)) ps pt
+          CousinEnd (map_ok (λ changes. after_group changes s) (or_stop s x))
+          (map_ok (λ changes. after_group changes t) (or_stop t x)) ps pt
       go (Ok changes) = record {
         scope = ap (all_applied changes) c.scope;
-        part = ap (part_after_all changes) c.part;
+        task_scope = ap (all_applied changes) c.task_scope;
         unseen = c.unseen;
         items = c.items;
         changes = ap (λ l. l ++ changes) c.changes;
@@ -1073,61 +1003,29 @@ module _ (tools : List ℕ → ToolInput → ToolAnswer) (id : RunId) (run : Run
         c_is = c.c_is;
         alike = c.alike;
       }
-      go (Err fault) = record {
-        scope = refl;
-        part = c.part;
-        unseen = c.unseen;
-        items =
-            c.items;
-        changes = c.changes;
-        w_is = c.w_is;
-        c_is = c.c_is;
-        alike = c.alike;
-      }
+      go (Err fault) = noted (Fail (fault_text fault)) s t ps pt c
 
   group-journal : (r : Run) (e : At) (s : State) → journal_of (group r e s) ≡ s.journal
-  group-journal r e s = go (group_changes (place_in r s s.scope) e)
+  group-journal r e s = go (group_changes (context_in r s s.scope) e)
     where
       go : (x : Result (List Change) EvalFault) →
-          journal_of (map_ok (λ changes. with_changes_seen changes s) (or_stop (without_scope s) x))
-          ≡ s.journal
+          journal_of (map_ok (λ changes. after_group changes s) (or_stop s x)) ≡ s.journal
       go (Ok changes) = refl
       go (Err fault) = refl
 
-  fold-both : (changes : List Change) (s t : State) (ps pt : List Act) → Cousin s t ps pt →
-      Cousin (fold with_change s changes) (fold with_change t changes) ps pt
-  fold-both [] s t ps pt c = c
-  fold-both (change ∷ changes) s t ps pt c =
-      fold-both changes (with_change s change) (with_change t change) ps pt
-      (record {
-        scope = ap (applied change) c.scope;
-        part = ap (part_after change) c.part;
-        unseen =
-            c.unseen;
-        items = c.items;
-        changes = c.changes;
-        w_is = c.w_is;
-        c_is = c.c_is;
-        alike =
-            c.alike;
-      })
-
   settled-state : (s t : State) (ps pt : List Act) → Cousin s t ps pt →
       Cousin (settled s) (settled t) ps pt
-  settled-state s t ps pt c =
-      subst (λ l. Cousin (settled s) (fold with_change (record t { unseen = [] }) l) ps pt) c.unseen
-      (fold-both s.unseen (record s { unseen = [] }) (record t { unseen = [] }) ps pt
-      (record {
-        scope = c.scope;
-        part = c.part;
-        unseen = refl;
-        items = c.items;
-        changes =
-            c.changes;
-        w_is = c.w_is;
-        c_is = c.c_is;
-        alike = c.alike;
-      }))
+  settled-state s t ps pt c = record {
+    scope = ap (all_applied s.unseen) c.scope ∙ ap (λ l. all_applied l t.scope) c.unseen;
+    task_scope = ap (all_applied s.unseen) c.task_scope
+        ∙ ap (λ l. all_applied l t.task_scope) c.unseen;
+    unseen = refl;
+    items = c.items;
+    changes = c.changes;
+    w_is = c.w_is;
+    c_is = c.c_is;
+    alike = c.alike;
+  }
 
   map-ends : (f g : State → State) (r q : Result State Stopped) (ps pt : List Act) →
       CousinEnd r q ps pt → ((s t : State) → Cousin s t ps pt → Cousin (f s) (g t) ps pt) →
@@ -1142,18 +1040,14 @@ module _ (tools : List ℕ → ToolInput → ToolAnswer) (id : RunId) (run : Run
   map-ends f g (Err (faulted d)) (Err (failed e)) ps pt c h = absurd c
   map-ends f g (Err (failed d)) (Err (faulted e)) ps pt c h = absurd c
 
-  fold-journal : (changes : List Change) (s : State) →
-      (fold with_change s changes).journal ≡ s.journal
-  fold-journal [] s = refl
-  fold-journal (change ∷ changes) s = fold-journal changes (with_change s change)
-
   settled-journal : (r : Result State Stopped) → journal_of (map_ok settled r) ≡ journal_of r
-  settled-journal (Ok t) = fold-journal t.unseen (record t { unseen = [] })
+  settled-journal (Ok t) = refl
   settled-journal (Err d) = refl
 
-  fine-settled : (r : Result State Stopped) → Fine (state_of (map_ok settled r)).notes →
-      Fine (state_of r).notes
-  fine-settled r f note i = f note (settled-has (state_of r) r (has-self r) note i)
+  fine-settled : (r : Result State Stopped) → Fine (progress_in (map_ok settled r)).notes →
+      Fine (progress_in r).notes
+  fine-settled (Ok t) f = f
+  fine-settled (Err d) f = f
 
   child-both : (choice : Choice) (e : At) (s t : State) →
       Both s t (child run choice e s) (child run choice e t)
@@ -1182,7 +1076,7 @@ module _ (tools : List ℕ → ToolInput → ToolAnswer) (id : RunId) (run : Run
   on-old None old s t ps pt c = c
   on-old (Some typed) old s t ps pt c = record {
     scope = c.scope;
-    part = refl;
+    task_scope = ap (λ scope. with_list scope typed.0 old) c.scope;
     unseen =
         c.unseen;
     items = c.items;
@@ -1208,7 +1102,7 @@ module _ (tools : List ℕ → ToolInput → ToolAnswer) (id : RunId) (run : Run
   items-same bucket s t ps pt c None = refl
   items-same bucket s t ps pt c (Some written) =
       ap (λ p. returned_items p bucket run.target.element s.items written) (place-same s t ps pt c)
-      ∙ ap (λ l. returned_items (place_in run t t.scope) bucket run.target.element l written)
+      ∙ ap (λ l. returned_items (context_in run t t.scope) bucket run.target.element l written)
       c.items
 
   returned-both : (bucket : Bucket) (s t : State) (ps pt : List Act) → Cousin s t ps pt →
@@ -1223,7 +1117,7 @@ module _ (tools : List ℕ → ToolInput → ToolAnswer) (id : RunId) (run : Run
           (or_stop s x)) (map_ok (λ items. with_items items t) (or_stop t x)) ps pt
       go (Ok items) = record {
         scope = c.scope;
-        part = c.part;
+        task_scope = c.task_scope;
         unseen = c.unseen;
         items =
             ap (λ l. l ++ items) c.items;
@@ -1272,7 +1166,7 @@ module _ (tools : List ℕ → ToolInput → ToolAnswer) (id : RunId) (run : Run
       (returned run bucket y) ps pt (returned-both bucket x y ps pt c)
       (λ a b d. record {
         scope = d.scope;
-        part = d.part;
+        task_scope = d.task_scope;
         unseen = d.unseen;
         items =
             d.items;

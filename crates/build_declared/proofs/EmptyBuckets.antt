@@ -22,7 +22,6 @@ use Rattle.std.specs.Prelude.{Result, Ok, Err, option_map, codes}
 use Rattle.msb_laws.specs.Results.{map_ok}
 use Rattle.msb_values.specs.declared.item.Item.{Item}
 use Rattle.msb_values.specs.declared.mode.Mode.{Mode}
-use Rattle.msb_values.specs.declared.note.Note.TheVariants.{Fail}
 use Rattle.msb_values.specs.declared.act.Act.{Act}
 use Rattle.msb_values.specs.declared.scope.Scope.{Scope}
 use Rattle.msb_expand.specs.declared.lens.Bucket.{Bucket}
@@ -30,7 +29,6 @@ use Rattle.result_cache.specs.declared.record.Decision.{Decision}
 use Rattle.result_cache.specs.declared.run.RunId.{RunId}
 use Rattle.result_cache.specs.Journal.{Journal}
 use Rattle.build_world.specs.Elements.{attribute_of}
-use Rattle.build_world.specs.Faults.{fault_text}
 use Rattle.build_world.specs.declared.fault.EvalFault.{EvalFault}
 use Rattle.build_incremental.specs.Alike.{AlikeJournals}
 use Rattle.element_texts.specs.Contexts.{item_context}
@@ -46,13 +44,12 @@ use Rattle.target_body.specs.States.{
   State,
   Stopped,
   view_of,
-  faulted,
   entered,
-  with_notes,
   with_items,
   with_decision,
   or_stop,
-  place_in,
+  context_in,
+  stop_at,
 }
 use Rattle.target_body.specs.Returned.{items_if, returned}
 use Rattle.target_body.specs.Pieces.{
@@ -93,12 +90,12 @@ module _ (tools : List ℕ → ToolInput → ToolAnswer) (id : RunId) (run : Run
     pub carry : Carry tools id run scope j k x y ps pt
 
   place-same : (x y : State) (ps pt : List Act) → Pairs x y ps pt →
-      place_in run x x.scope ≡ place_in run y y.scope
+      context_in run x x.scope ≡ context_in run y y.scope
   place-same x y ps pt h =
       ap (λ l. item_context l run.instance.path x.scope)
       ((looks-same run.files AnyPath).paths x.journal y.journal
       (carry-alike tools id run scope j k a x y ps pt h.carry))
-      ∙ ap (place_in run y) h.scope_same
+      ∙ ap (context_in run y) h.scope_same
 
   -- the state in which a bucket begins
   pub entered-pair : (bucket : Bucket) (s t : State) (ps pt : List Act) →
@@ -129,7 +126,7 @@ module _ (tools : List ℕ → ToolInput → ToolAnswer) (id : RunId) (run : Run
   items-same bucket x y ps pt h None = refl
   items-same bucket x y ps pt h (Some written) =
       ap (λ p. returned_items p bucket run.target.element x.items written) (place-same x y ps pt h)
-      ∙ ap (λ l. returned_items (place_in run y y.scope) bucket run.target.element l written)
+      ∙ ap (λ l. returned_items (context_in run y y.scope) bucket run.target.element l written)
       h.carry.items
 
   -- after the children: the items that are returned, and the word
@@ -243,15 +240,13 @@ module _ (tools : List ℕ → ToolInput → ToolAnswer) (id : RunId) (run : Run
       go (Err fault) m e f =
           let E : End (Result State Stopped) = record {
             value =
-                or_failed (Err (faulted (with_notes (Fail (fault_text fault) ∷ [])
-                (entered scope bucket s))));
+                or_failed (Err (stop_at fault (entered scope bucket s)));
             journal = s.journal;
             acts = ps;
           } in
           let F : End (Result State Stopped) = record {
             value =
-                or_failed (Err (faulted (with_notes (Fail (fault_text fault) ∷ [])
-                (entered scope bucket t))));
+                or_failed (Err (stop_at fault (entered scope bucket t)));
             journal = t.journal;
             acts = pt;
           } in (

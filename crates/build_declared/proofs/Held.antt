@@ -8,7 +8,6 @@ use Rattle.std.proofs.Common.{
   List,
   [],
   ◌∷◌,
-  ◌++◌,
   length,
   Option,
   None,
@@ -22,8 +21,6 @@ use Rattle.std.specs.Prelude.{Result, Ok, Err, codes}
 use Rattle.std.specs.Str.{bytes_eq}
 use Rattle.msb_values.specs.declared.act.Act.{Act}
 use Rattle.msb_expand.specs.Reserved.{folder_of}
-use Rattle.result_cache.specs.declared.request.RequestKey.{RequestKey}
-use Rattle.result_cache.specs.declared.request.RequestResult.{RequestResult}
 use Rattle.result_cache.specs.declared.run.RunId.{RunId}
 use Rattle.result_cache.specs.Journal.{Journal, add, acted}
 use Rattle.build_world.specs.Elements.{At}
@@ -37,26 +34,13 @@ use Rattle.task_trait.specs.declared.tools.ToolAnswer.TheVariants.{Unknown, Made
 use Rattle.task_trait.specs.declared.tools.ToolInput.{ToolInput}
 use Rattle.task_kit.specs.Foreign.{foreign_input, foreign_output}
 use Rattle.task_kit.specs.Tasks.{answer}
-use Rattle.task_msbuild.specs.Plans.{plan_of, has_stopped}
-use Rattle.task_msbuild.specs.Gathered.{gathered}
-use Rattle.task_msbuild.specs.declared.plans.Plan.{Plan}
 use Rattle.target_texts.specs.Inferred.{task_of}
-use Rattle.target_body.specs.Work.{Work, done, calls}
-use Rattle.target_body.specs.States.{Run, State, with_journal, with_act, view_of}
-use Rattle.target_body.specs.Answers.{
-  all_acted,
-  given,
-  at_once,
-  in_order,
-  made,
-  msbuild,
-  tool,
-  not_built_in,
-  answered_by,
-}
+use Rattle.target_body.specs.Work.{Work, done}
+use Rattle.target_body.specs.States.{Run, State, with_act, view_of}
+use Rattle.target_body.specs.Answers.{all_acted, given, msbuild, tool, not_built_in, answered_by}
 use Rattle.target_body.specs.Tasks.{answered_if}
 use Rattle.build_declared.specs.Ends.{End, end_of}
-use Rattle.build_declared.proofs.Alones.{some-same, end-bound}
+use Rattle.build_declared.proofs.Alones.{some-same, end-bound, msbuild-end, uncalled}
 
 -- a state without its journal and what was written
 abbrev pub bare : State → State
@@ -92,47 +76,10 @@ module _ (tools : List ℕ → ToolInput → ToolAnswer) (id : RunId) (run : Run
       done-leaves (λ (r : State × TaskOutput). r.0) s (x.0.value, output)
       (acted-leaves output.acts s j ps x.0 x.1) x.0.journal x.0.acts E x.2
 
-  abbrev LeavesResults : State → Work (State × List RequestResult) → Type 0
-  LeavesResults s v = (j : Journal) (ps : List Act) (E : End (State × List RequestResult)) →
-      end_of tools id v j ps ≡ Some E → bare E.value.0 ≡ bare s
-
-  once-leaves : (keys : List RequestKey) (s : State) → LeavesResults s (at_once keys s)
-  once-leaves [] s = done-leaves (λ (r : State × List RequestResult). r.0) s (s, []) refl
-  once-leaves (key ∷ keys) s = λ j ps E e. absurd (cc)
-
-  order-leaves : (plan : Plan) (answers : List RequestResult) (keys : List RequestKey) (s : State) →
-      LeavesResults s (in_order plan answers keys s)
-  order-leaves plan answers [] s = done-leaves (λ (r : State × List RequestResult). r.0) s (
-    s,
-    answers,
-  ) refl
-  order-leaves plan answers (key ∷ keys) s = go (has_stopped plan answers)
-    where
-      go : (b : Bool) → LeavesResults s (elim b [
-        | true ↦ done (s, answers)
-        | false ↦ calls key [] (λ more journal. in_order plan (answers ++ more) keys
-            (with_journal journal s))
-      ])
-      go true = done-leaves (λ (r : State × List RequestResult). r.0) s (s, answers) refl
-      go false = λ j ps E e. absurd (cc)
-
-  made-leaves : (plan : Plan) (s : State) → LeavesResults s (made plan s)
-  made-leaves plan s = go plan.parallel
-    where
-      go : (b : Bool) → LeavesResults s (elim b [
-        | true ↦ at_once plan.calls s
-        | false ↦ in_order plan [] plan.calls s
-      ])
-      go true = once-leaves plan.calls s
-      go false = order-leaves plan [] plan.calls s
-
   msbuild-leaves : (params : List Param) (s : State) → Leaves s (msbuild run s params)
   msbuild-leaves params s j ps E e =
-      let plan : Plan = plan_of run.files (folder_of run.instance.path) run.instance.globals params
-      in
-      let x = end-bound tools id (made plan s) (λ x. done (x.0, gathered plan x.1)) j ps E e in
-      done-leaves (λ (r : State × TaskOutput). r.0) s (x.0.value.0, gathered plan x.0.value.1)
-      (made-leaves plan s j ps x.0 x.1) x.0.journal x.0.acts E x.2
+      done-leaves (λ (r : State × TaskOutput). r.0) s (s, uncalled run params) refl j ps E
+      (msbuild-end tools id run s params j ps E e)
 
   tool-leaves : (name : List ℕ) (s : State) (x : Result ToolInput Failure) →
       Leaves s (tool name s x)

@@ -56,8 +56,9 @@ use Rattle.target_incremental.specs.declared.decision.Choice.TheVariants.{
 }
 use Rattle.target_texts.specs.Lists.{Lists}
 use Rattle.target_body.specs.Work.{Work, done, followed_by, unless_stopped, each_in_turn}
-use Rattle.target_body.specs.States.{Run, State, Stopped, entered, or_stop, state_at, state_of}
+use Rattle.target_body.specs.States.{Run, State, Stopped, entered, or_stop, progress_at}
 use Rattle.target_body.specs.Pieces.{lists_at, choice_of, decided, or_failed, chosen_or_run}
+use Rattle.build_declared.proofs.PartEnds.{progress_in}
 use Rattle.build_declared.specs.Chosen.{all_of, all_or_nothing}
 use Rattle.build_declared.specs.Written.{bytes_in, AnyPath}
 use Rattle.build_declared.specs.Ends.{End, end_of}
@@ -99,7 +100,7 @@ AllIdle ok words = (word : Decision) → In word words → IsIdle ok word
 -- a run goes on, or has stopped, with such words
 abbrev pub HasIdle : Result State Stopped → Type 0
 HasIdle (Ok s) = AllIdle true s.decisions
-HasIdle (Err d) = AllIdle false (state_at d).decisions
+HasIdle (Err d) = AllIdle false (progress_at d).decisions
 
 fails-too : (word : Decision) → IsIdle true word → IsIdle false word
 fails-too Ran h = h
@@ -139,7 +140,7 @@ gain word (Ok t) = one_if_up word
 gain word (Err d) = 0
 
 counts-by : (word : Decision) (before : List Decision) (r : Result State Stopped) →
-    EndsBy word before r → up_to_date (state_of r).decisions ≡ up_to_date before + gain word r
+    EndsBy word before r → up_to_date (progress_in r).decisions ≡ up_to_date before + gain word r
 counts-by word before (Ok t) h = ap up_to_date h ∙ counts-more before word
 counts-by word before (Err d) h = ap up_to_date h ∙ counts-more before Failed
 
@@ -174,7 +175,7 @@ module _ (tools : List ℕ → ToolInput → ToolAnswer) (id : RunId) (run : Run
     pub end : Result State Stopped
     pub at_once : first bucket s ≡ done end
     pub words : AllIdle true s.decisions → HasIdle end
-    pub as_many : up_to_date (state_of end).decisions
+    pub as_many : up_to_date (progress_in end).decisions
         ≡ up_to_date s.decisions + length pieces
     pub skips : (p : Piece) → In p pieces → choice_of Incremental run p.lists p.from ≡ Skip
 
@@ -300,7 +301,7 @@ module _ (tools : List ℕ → ToolInput → ToolAnswer) (id : RunId) (run : Run
     pub end : Result State Stopped
     pub at_once : each_in_turn first buckets s ≡ done end
     pub words : HasIdle end
-    pub as_many : up_to_date (state_of end).decisions ≡ up_to_date s.decisions
+    pub as_many : up_to_date (progress_in end).decisions ≡ up_to_date s.decisions
         + length (pieces_among tools id (choice_of Incremental run) run scope buckets s [])
     pub skips : (p : Piece) →
         In p (pieces_among tools id (choice_of Incremental run) run scope buckets s []) →
@@ -340,7 +341,7 @@ module _ (tools : List ℕ → ToolInput → ToolAnswer) (id : RunId) (run : Run
       end : Result State Stopped
       over : unless_stopped r (each_in_turn first buckets) ≡ done end
       words : HasIdle end
-      as_many : up_to_date (state_of end).decisions ≡ up_to_date (state_of r).decisions
+      as_many : up_to_date (progress_in end).decisions ≡ up_to_date (progress_in r).decisions
           + length (rest l buckets r)
       skips : (p : Piece) → In p (rest l buckets r) →
           choice_of Incremental run p.lists p.from ≡ Skip
@@ -357,11 +358,12 @@ module _ (tools : List ℕ → ToolInput → ToolAnswer) (id : RunId) (run : Run
         (pieces_among tools id (choice_of Incremental run) run scope buckets)) o.at_once in
         let long : length (here ++ later) ≡ length here + length later =
         length-append here later in
-        let one : up_to_date (state_of o.end).decisions ≡ up_to_date s.decisions + length here =
+        let one : up_to_date (progress_in o.end).decisions ≡ up_to_date s.decisions + length here =
         o.as_many in
-        let two : up_to_date (state_of n.end).decisions ≡ up_to_date (state_of o.end).decisions
+        let two : up_to_date (progress_in n.end).decisions
+        ≡ up_to_date (progress_in o.end).decisions
         + length later = n.as_many in
-        let sum : up_to_date (state_of n.end).decisions ≡ up_to_date s.decisions
+        let sum : up_to_date (progress_in n.end).decisions ≡ up_to_date s.decisions
         + length (here ++ later) = omega (arith, long, one, two) in
         record {
           end = n.end;
@@ -438,7 +440,7 @@ module _ (tools : List ℕ → ToolInput → ToolAnswer) (id : RunId) (run : Run
           end = Err d;
           over = refl;
           words = w;
-          as_many = plus-none (up_to_date (state_at d).decisions);
+          as_many = plus-none (up_to_date (progress_at d).decisions);
           skips = λ p i. absurd i;
         }
 

@@ -1,3 +1,4 @@
+pub mod PartEnds
 pub mod Alones
 pub mod BucketsGo
 pub mod Choices

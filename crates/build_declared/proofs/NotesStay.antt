@@ -8,19 +8,14 @@ use Rattle.std.proofs.Common.{
   List,
   [],
   ◌∷◌,
-  ◌++◌,
-  length,
-  fold,
   Option,
   None,
   Some,
-  refl,
   ap,
   sym,
   subst,
 }
-use Rattle.std.specs.Prelude.{Result, Ok, Err, codes}
-use Rattle.std.specs.Str.{bytes_eq}
+use Rattle.std.specs.Prelude.{Result, Ok, Err}
 use Rattle.msb_laws.specs.Results as results
 use Rattle.msb_laws.specs.Results.{map_ok}
 use Rattle.msb_values.specs.Keys.{key_of}
@@ -28,35 +23,21 @@ use Rattle.msb_values.specs.declared.change.Change.{Change}
 use Rattle.msb_values.specs.declared.item.Item.{Item}
 use Rattle.msb_values.specs.declared.note.Note.{Note}
 use Rattle.msb_values.specs.declared.note.Note.TheVariants.{Fail}
-use Rattle.msb_values.specs.declared.act.Act.{Act}
 use Rattle.msb_values.specs.declared.scope.Scope.{Scope}
 use Rattle.msb_elements.specs.Nodes.{name_of}
-use Rattle.msb_expand.specs.Reserved.{folder_of}
 use Rattle.msb_expand.specs.declared.lens.Bucket.{Bucket}
 use Rattle.result_cache.specs.Lists.{In}
-use Rattle.result_cache.specs.declared.request.RequestKey.{RequestKey}
-use Rattle.result_cache.specs.declared.request.RequestResult.{RequestResult}
 use Rattle.result_cache.specs.declared.run.RunId.{RunId}
 use Rattle.result_cache.specs.declared.record.Decision.{Decision}
-use Rattle.result_cache.specs.Journal.{Journal, add, acted}
 use Rattle.build_world.specs.Elements.{At, children_of}
 use Rattle.build_world.specs.Faults.{fault_text}
 use Rattle.build_world.specs.declared.fault.EvalFault.{EvalFault}
 use Rattle.build_meaning.proofs.MeaningDerived.{in-left}
 use Rattle.msb_items.specs.TargetGroups.{group_changes}
-use Rattle.task_trait.specs.Failures.{failed as failed_output}
-use Rattle.task_trait.specs.declared.failures.Failure.{Failure}
-use Rattle.task_trait.specs.declared.failures.Failure.TheVariants.{UnknownTask}
 use Rattle.task_trait.specs.declared.tools.Param.{Param}
 use Rattle.task_trait.specs.declared.tools.TaskOutput.{TaskOutput}
 use Rattle.task_trait.specs.declared.tools.ToolAnswer.{ToolAnswer}
-use Rattle.task_trait.specs.declared.tools.ToolAnswer.TheVariants.{Unknown, Made as MadeBy}
 use Rattle.task_trait.specs.declared.tools.ToolInput.{ToolInput}
-use Rattle.task_kit.specs.Foreign.{foreign_input, foreign_output}
-use Rattle.task_kit.specs.Tasks.{answer}
-use Rattle.task_msbuild.specs.Plans.{plan_of, has_stopped}
-use Rattle.task_msbuild.specs.Gathered.{gathered}
-use Rattle.task_msbuild.specs.declared.plans.Plan.{Plan}
 use Rattle.target_incremental.specs.declared.decision.Choice.{Choice}
 use Rattle.target_incremental.specs.declared.decision.Choice.TheVariants.{
   Run as RunAll,
@@ -67,12 +48,12 @@ use Rattle.target_incremental.specs.declared.decision.Choice.TheVariants.{
 use Rattle.target_texts.specs.declared.on_error.OnError.{OnError}
 use Rattle.target_texts.specs.declared.on_error.OnError.TheVariants.{Stop, Warn, Continue}
 use Rattle.target_texts.specs.Made.{Made}
-use Rattle.target_texts.specs.Inferred.{task_of, inferred_at}
+use Rattle.target_texts.specs.Inferred.{inferred_at}
 use Rattle.target_texts.specs.Parameters.{task_buckets}
 use Rattle.target_texts.specs.Lists.{Lists}
 use Rattle.target_texts.specs.OnErrors.{notes_by}
 use Rattle.target_texts.specs.Returned.{returns_of}
-use Rattle.target_body.specs.Work.{Work, done, calls, followed_by, unless_stopped, each_in_turn}
+use Rattle.target_body.specs.Work.{Work, done, followed_by, unless_stopped, each_in_turn}
 use Rattle.target_body.specs.States.{
   Run,
   State,
@@ -80,37 +61,20 @@ use Rattle.target_body.specs.States.{
   faulted,
   failed,
   entered,
-  with_journal,
-  with_act,
   with_notes,
   with_items,
   with_decision,
-  with_change,
   with_changes,
-  with_changes_seen,
-  without_scope,
+  after_group,
+  stop_at,
   settled,
   or_stop,
   stopped_by,
   taken,
-  task_scope,
-  view_of,
-  place_in,
-  state_of,
-}
-use Rattle.target_body.specs.Answers.{
-  all_acted,
-  given,
-  at_once,
-  in_order,
-  made,
-  msbuild,
-  tool,
-  not_built_in,
-  answered_by,
+  context_in,
 }
 use Rattle.target_body.specs.Tasks.{
-  called_place,
+  call_context,
   ended_by,
   outputs_if,
   answered_to,
@@ -120,6 +84,7 @@ use Rattle.target_body.specs.Tasks.{
   call,
   called,
   inferred,
+  still_failed,
   then_inferred,
   task,
 }
@@ -146,12 +111,14 @@ use Rattle.target_body.specs.Pieces.{
   chosen_or_run,
   bucket_by,
 }
-use Rattle.build_declared.specs.Ends.{End, end_of}
+use Rattle.build_declared.proofs.PartEnds.{progress_in}
+use Rattle.build_declared.specs.Ends.{End}
 use Rattle.build_declared.proofs.Alones.{some-same, end-bound, KeepsNotes, keeps-then, keeps-each}
+use Rattle.build_declared.proofs.Held.{if-leaves}
 
 -- a result has the notes of a state
 abbrev pub Has : State → Result State Stopped → Type 0
-Has s r = (note : Note) → In note s.notes → In note (state_of r).notes
+Has s r = (note : Note) → In note s.notes → In note (progress_in r).notes
 
 pub taken-has : (m : Made) (s : State) → Has s (taken m s)
 taken-has m s = go m.fault
@@ -171,14 +138,13 @@ pub and-has : (s : State) (r : Result State Stopped) (f : State → Result State
 and-has s (Ok t) f h g note i = g t note (h note i)
 and-has s (Err d) f h g note i = h note i
 
-pub fold-notes : (changes : List Change) (s : State) → (fold with_change s changes).notes ≡ s.notes
-fold-notes [] s = refl
-fold-notes (change ∷ changes) s = fold-notes changes (with_change s change)
-
 pub settled-has : (s : State) (r : Result State Stopped) → Has s r → Has s (map_ok settled r)
-settled-has s (Ok t) h note i = subst (In note)
-    (sym (fold-notes t.unseen (record t { unseen = [] }))) (h note i)
+settled-has s (Ok t) h note i = h note i
 settled-has s (Err d) h note i = h note i
+
+pub still-has : (s : State) (r : Result State Stopped) → Has s r → Has s (still_failed r)
+still-has s (Ok t) h note i = h note i
+still-has s (Err d) h note i = h note i
 
 module _ (tools : List ℕ → ToolInput → ToolAnswer) (id : RunId) (run : Run) where
   abbrev Keeps : State → Work (Result State Stopped) → Type 0
@@ -189,7 +155,8 @@ module _ (tools : List ℕ → ToolInput → ToolAnswer) (id : RunId) (run : Run
   over s r h j ps E e note i =
       let same : record { value = r; journal = j; acts = ps } ≡ E =
       some-same (record { value = r; journal = j; acts = ps }) E e in
-      subst (λ (z : End (Result State Stopped)). In note (state_of z.value).notes) same (h note i)
+      subst (λ (z : End (Result State Stopped)). In note (progress_in z.value).notes) same
+      (h note i)
 
   -- a part whose end is looked at
   then-over : (s : State) (v : Work (Result State Stopped)) (f : Result State Stopped →
@@ -203,119 +170,17 @@ module _ (tools : List ℕ → ToolInput → ToolAnswer) (id : RunId) (run : Run
       Work (Result State Stopped)) → ((y : X) → Keeps s (next y)) →
       Keeps s (unless_stopped (or_stop s x) next)
   read s (Ok y) next f = f y
-  read s (Err fault) next f = over s (Err (faulted (with_notes (Fail (fault_text fault) ∷ []) s)))
+  read s (Err fault) next f = over s (Err (stop_at fault s))
       (λ note i. in-left note s.notes (Fail (fault_text fault) ∷ []) i)
-
-  -- ---- answers: they leave the notes as they are
-
-  abbrev Leaves : State → Work (State × TaskOutput) → Type 0
-  Leaves s v = (j : Journal) (ps : List Act) (E : End (State × TaskOutput)) →
-      end_of tools id v j ps ≡ Some E → E.value.0.notes ≡ s.notes
-
-  acted-leaves : (acts : List Act) (s : State) (j : Journal) (ps : List Act) (E : End State) →
-      end_of tools id (all_acted acts s) j ps ≡ Some E → E.value.notes ≡ s.notes
-  acted-leaves [] s j ps E e =
-      let same : record { value = s; journal = j; acts = ps } ≡ E =
-      some-same (record { value = s; journal = j; acts = ps }) E e in
-      ap (λ (z : End State). z.value.notes) (sym same)
-  acted-leaves (act ∷ acts) s j ps E e =
-      let n : Journal = add j (acted id (length ps) act) in
-      acted-leaves acts (with_act act n s) n (act ∷ ps) E e
-
-  done-leaves : {R : Type 0} (get : R → State) (s : State) (r : R) → (get r).notes ≡ s.notes →
-      (j : Journal) (ps : List Act) (E : End R) → end_of tools id (done r) j ps ≡ Some E →
-      (get E.value).notes ≡ s.notes
-  done-leaves get s r h j ps E e =
-      let same : record { value = r; journal = j; acts = ps } ≡ E =
-      some-same (record { value = r; journal = j; acts = ps }) E e in
-      subst (λ (z : End _). (get z.value).notes ≡ s.notes) same h
-
-  given-leaves : (output : TaskOutput) (s : State) → Leaves s (given s output)
-  given-leaves output s j ps E e =
-      let x = end-bound tools id (all_acted output.acts s)
-      (λ after. done (after, output)) j ps E e in
-      done-leaves (λ (r : State × TaskOutput). r.0) s (x.0.value, output)
-      (acted-leaves output.acts s j ps x.0 x.1) x.0.journal x.0.acts E x.2
-
-  abbrev LeavesResults : State → Work (State × List RequestResult) → Type 0
-  LeavesResults s v = (j : Journal) (ps : List Act) (E : End (State × List RequestResult)) →
-      end_of tools id v j ps ≡ Some E → E.value.0.notes ≡ s.notes
-
-  once-leaves : (keys : List RequestKey) (s : State) → LeavesResults s (at_once keys s)
-  once-leaves [] s = done-leaves (λ (r : State × List RequestResult). r.0) s (s, []) refl
-  once-leaves (key ∷ keys) s = λ j ps E e. absurd (cc)
-
-  order-leaves : (plan : Plan) (answers : List RequestResult) (keys : List RequestKey) (s : State) →
-      LeavesResults s (in_order plan answers keys s)
-  order-leaves plan answers [] s = done-leaves (λ (r : State × List RequestResult). r.0) s (
-    s,
-    answers,
-  ) refl
-  order-leaves plan answers (key ∷ keys) s = go (has_stopped plan answers)
-    where
-      go : (b : Bool) → LeavesResults s (elim b [
-        | true ↦ done (s, answers)
-        | false ↦ calls key [] (λ more journal. in_order plan (answers ++ more) keys
-            (with_journal journal s))
-      ])
-      go true = done-leaves (λ (r : State × List RequestResult). r.0) s (s, answers) refl
-      go false = λ j ps E e. absurd (cc)
-
-  made-leaves : (plan : Plan) (s : State) → LeavesResults s (made plan s)
-  made-leaves plan s = go plan.parallel
-    where
-      go : (b : Bool) → LeavesResults s (elim b [
-        | true ↦ at_once plan.calls s
-        | false ↦ in_order plan [] plan.calls s
-      ])
-      go true = once-leaves plan.calls s
-      go false = order-leaves plan [] plan.calls s
-
-  msbuild-leaves : (params : List Param) (s : State) → Leaves s (msbuild run s params)
-  msbuild-leaves params s j ps E e =
-      let plan : Plan = plan_of run.files (folder_of run.instance.path) run.instance.globals params
-      in
-      let x = end-bound tools id (made plan s) (λ x. done (x.0, gathered plan x.1)) j ps E e in
-      done-leaves (λ (r : State × TaskOutput). r.0) s (x.0.value.0, gathered plan x.0.value.1)
-      (made-leaves plan s j ps x.0 x.1) x.0.journal x.0.acts E x.2
-
-  tool-leaves : (name : List ℕ) (s : State) (x : Result ToolInput Failure) →
-      Leaves s (tool name s x)
-  tool-leaves name s (Ok input) = λ j ps E e. given-leaves
-      (foreign_output name s.written (tools name input)) s j ps E e
-  tool-leaves name s (Err failure) = done-leaves (λ (r : State × TaskOutput). r.0) s (
-    s,
-    failed_output name failure,
-  ) refl
-
-  built-leaves : (b : Bool) (name : List ℕ) (params : List Param) (s : State) →
-      Leaves s (not_built_in b run s name params)
-  built-leaves true name params s = msbuild-leaves params s
-  built-leaves false name params s = tool-leaves name s (foreign_input (folder_of run.instance.path)
-      (view_of run s) params)
-
-  by-answer : (x : ToolAnswer) (name : List ℕ) (params : List Param) (s : State) →
-      Leaves s (answered_by x run s name params)
-  by-answer (MadeBy output) name params s = given-leaves output s
-  by-answer Unknown name params s = built-leaves (bytes_eq name (codes "msbuild")) name params s
-
-  if-leaves : (name : Option (List ℕ)) (e : At) (params : List Param) (s : State) →
-      Leaves s (answered_if name run s e params)
-  if-leaves (Some name) e params s = by-answer (answer name (folder_of run.instance.path)
-      (view_of run s) params s.written) name params s
-  if-leaves None e params s = done-leaves (λ (r : State × TaskOutput). r.0) s (
-    s,
-    failed_output (task_of e) UnknownTask,
-  ) refl
 
   -- ---- tasks
 
   pub answered-has : (e : At) (gives : Bool) (bucket : Bucket) (on_error : OnError)
       (x : State × TaskOutput) → Has x.0 (answered_to run e gives bucket on_error x)
   answered-has e gives bucket on_error x =
-      and-has x.0 (taken (outputs_if gives (called_place run x.0 bucket) x.1.outputs e)
+      and-has x.0 (taken (outputs_if gives (call_context run x.0 bucket) x.1.outputs e)
       (with_notes (notes_by on_error x.1.notes) x.0)) (ended_by on_error x.1.ok)
-      (λ note i. taken-has (outputs_if gives (called_place run x.0 bucket) x.1.outputs e)
+      (λ note i. taken-has (outputs_if gives (call_context run x.0 bucket) x.1.outputs e)
       (with_notes (notes_by on_error x.1.notes) x.0) note
       (in-left note x.0.notes (notes_by on_error x.1.notes) i))
       (ended-has on_error x.1.ok)
@@ -326,31 +191,32 @@ module _ (tools : List ℕ → ToolInput → ToolAnswer) (id : RunId) (run : Run
   with-keeps e gives bucket s (Some ready) = λ j ps E h note i.
       let x = end-bound tools id (answered_if (key_of (name_of e.node)) run s e ready.1)
       (λ x. done (answered_to run e gives bucket ready.0 x)) j ps E h in
-      let same : x.0.value.0.notes ≡ s.notes = if-leaves
-      (key_of (name_of e.node)) e ready.1 s j ps x.0 x.1 in
+      let same : x.0.value.0.notes ≡ s.notes = ap (λ (z : State). z.notes)
+      (if-leaves tools id run (key_of (name_of e.node)) e ready.1 s j ps x.0 x.1) in
       over s (answered_to run e gives bucket ready.0 x.0.value)
       (λ n u. answered-has e gives bucket ready.0 x.0.value n (subst (In n) (sym same) u))
       x.0.journal x.0.acts E x.2 note i
 
   pub call-keeps : (e : At) (gives : Bool) (bucket : Bucket) (s : State) →
       Keeps s (call run e gives bucket s)
-  call-keeps e gives bucket s = read s (readied (called_place run s bucket) e)
+  call-keeps e gives bucket s = read s (readied (call_context run s bucket) e)
       (called_with run e gives bucket s) (with-keeps e gives bucket s)
 
   called-keeps : (e : At) (gives : Bool) (s : State) → Keeps s (called run e gives s)
   called-keeps e gives s =
-      read s (task_buckets (place_in run s (task_scope s)) e)
+      read s (task_buckets (context_in run s s.task_scope) e)
       (λ buckets. each_in_turn (call run e gives) buckets s)
       (λ buckets. keeps-each tools id (call run e gives) (call-keeps e gives) buckets s)
 
   pub inferred-has : (e : At) (s : State) → Has s (inferred run e s)
-  inferred-has e s = taken-has (inferred_at (place_in run s s.scope) e) s
+  inferred-has e s = taken-has (inferred_at (context_in run s s.scope) e) s
 
   pub then-has : (e : At) (s : State) (r : Result State Stopped) → Has s r →
       Has s (then_inferred run e r)
   then-has e s (Ok t) h note i = inferred-has e t note (h note i)
-  then-has e s (Err (failed t)) h note i = inferred-has e t note (h note i)
-  then-has e s (Err (faulted t)) h note i = h note i
+  then-has e s (Err (failed t)) h note i =
+      still-has s (inferred run e t) (λ n u. inferred-has e t n (h n u)) note i
+  then-has e s (Err (faulted p)) h note i = h note i
 
   task-keeps : (choice : Choice) (e : At) (s : State) → Keeps s (task run choice e s)
   task-keeps RunAll e s = called-keeps e true s
@@ -360,10 +226,10 @@ module _ (tools : List ℕ → ToolInput → ToolAnswer) (id : RunId) (run : Run
       (called-keeps e false s) (then-has e s)
 
   pub group-has : (e : At) (s : State) → Has s (group run e s)
-  group-has e s = go (group_changes (place_in run s s.scope) e)
+  group-has e s = go (group_changes (context_in run s s.scope) e)
     where
       go : (x : Result (List Change) EvalFault) →
-          Has s (map_ok (λ changes. with_changes_seen changes s) (or_stop (without_scope s) x))
+          Has s (map_ok (λ changes. after_group changes s) (or_stop s x))
       go (Ok changes) note i = i
       go (Err fault) note i = in-left note s.notes (Fail (fault_text fault) ∷ []) i
 
@@ -412,7 +278,7 @@ module _ (tools : List ℕ → ToolInput → ToolAnswer) (id : RunId) (run : Run
 
   failed-has : (s : State) (r : Result State Stopped) → Has s r → Has s (or_failed r)
   failed-has s (Ok t) h note i = h note i
-  failed-has s (Err (faulted t)) h note i = h note i
+  failed-has s (Err (faulted p)) h note i = h note i
   failed-has s (Err (failed t)) h note i = h note i
 
   pub bucket-keeps : (choose : Chooser) (scope : Scope) (bucket : Bucket) (s : State) →

@@ -28,7 +28,6 @@ use Rattle.msb_laws.specs.Results.{map_ok}
 use Rattle.msb_values.specs.declared.act.Act.{Act}
 use Rattle.msb_values.specs.declared.item.Item.{Item}
 use Rattle.msb_values.specs.declared.mode.Mode.{Mode}
-use Rattle.msb_values.specs.declared.note.Note.TheVariants.{Fail}
 use Rattle.msb_values.specs.declared.scope.Scope.{Scope}
 use Rattle.msb_expand.specs.declared.lens.Bucket.{Bucket}
 use Rattle.file_store.specs.declared.tree.File.{File}
@@ -37,7 +36,6 @@ use Rattle.result_cache.specs.declared.record.Decision.TheVariants.{NothingToDo}
 use Rattle.result_cache.specs.declared.run.RunId.{RunId}
 use Rattle.result_cache.specs.Lists.{In}
 use Rattle.result_cache.specs.Journal.{Journal}
-use Rattle.build_world.specs.Faults.{fault_text}
 use Rattle.build_world.specs.Instances.{UsedTarget}
 use Rattle.build_world.specs.declared.fault.EvalFault.{EvalFault}
 use Rattle.build_meaning.proofs.MeaningDerived.{in-left, in-right}
@@ -72,13 +70,12 @@ use Rattle.target_body.specs.States.{
   Stopped,
   begun,
   entered,
-  faulted,
   or_stop,
   outcome_of,
   with_decision,
   with_items,
-  with_notes,
   run_at,
+  stop_at,
 }
 use Rattle.target_body.specs.Work.{Work, done, followed_by, unless_stopped, each_in_turn}
 use Rattle.target_body.specs.Bodies.{buckets_by, work_by}
@@ -183,8 +180,7 @@ module _ (tools : List ℕ → ToolInput → ToolAnswer) (id : RunId) (run : Run
           (map_ok (λ items. with_items items y) (or_stop y x))) ≡ Ok u → u.journal ≡ y.journal
       go (Ok items) h = ap (λ (z : State). z.journal)
           (sym (ok-same (with_decision word (with_items items y)) u h))
-      go (Err fault) h = absurd (err-ok (as_failed (faulted (with_notes
-          (Fail (fault_text fault) ∷ []) y))) u h)
+      go (Err fault) h = absurd (err-ok (as_failed (stop_at fault y)) u h)
 
   -- the bucket, where its pieces are declared and succeed
   module _ (bucket : Bucket) (t : State) (pt : List Act) (E : End (Result State Stopped))
@@ -279,10 +275,9 @@ module _ (tools : List ℕ → ToolInput → ToolAnswer) (id : RunId) (run : Run
         go : (l : Result (Option Lists) EvalFault) → lists_at run bucket y ≡ l → Owns
         go (Ok None) e = absurd (takes bucket y e)
         go (Err fault) e =
-            over (or_failed (Err (faulted (with_notes (Fail (fault_text fault) ∷ []) y))))
+            over (or_failed (Err (stop_at fault y)))
             (by-lists (Err fault) e)
-            (λ u g. absurd (err-ok (as_failed (faulted (with_notes (Fail (fault_text fault) ∷ [])
-            y))) u g))
+            (λ u g. absurd (err-ok (as_failed (stop_at fault y)) u g))
         go (Ok (Some lists)) e =
             by-all lists e (all_or_nothing lists.inputs lists.outputs) refl
 
@@ -469,7 +464,7 @@ module _ (tools : List ℕ → ToolInput → ToolAnswer) (files : List File) (ta
       RunOwns (pieces_in tools id all_of run scope (or_stop from_c x) from_c)
   by-buckets (Err fault) ew ec takes declared fresh =
       let E : End (Result State Stopped) = record {
-        value = or_failed (Err (faulted (with_notes (Fail (fault_text fault) ∷ []) from_w)));
+        value = or_failed (Err (stop_at fault from_w));
         journal = j;
         acts = [];
       } in

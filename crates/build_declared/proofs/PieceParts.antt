@@ -56,17 +56,9 @@ use Rattle.target_incremental.specs.declared.decision.Choice.TheVariants.{
   Part,
 }
 use Rattle.target_texts.specs.Lists.{Lists}
-use Rattle.target_body.specs.States.{
-  Run,
-  State,
-  Stopped,
-  faulted,
-  failed,
-  entered,
-  view_of,
-  state_of,
-}
+use Rattle.target_body.specs.States.{Run, State, Stopped, faulted, failed, entered, view_of}
 use Rattle.target_body.specs.Pieces.{choice_of, decided}
+use Rattle.build_declared.proofs.PartEnds.{progress_in}
 use Rattle.build_declared.specs.Declared.{PartIsDeclared, PieceIsDeclared}
 use Rattle.build_declared.specs.Pieces.{ByItems}
 use Rattle.build_declared.specs.Sublists.{kept_if, kept, ArePart}
@@ -308,7 +300,7 @@ module _ (tools : List ℕ → ToolInput → ToolAnswer) (id : RunId) (run : Run
 
   finish : (after : State) (acts : List Act) (r : Result State Stopped) (l : Journal)
       (qs qt : List Act) (skipped : State) → CousinEnd tools id run j k fw fc r (Ok skipped) qs qt →
-      (state_of r).journal ≡ l → LacksOnly (bytes_in run.files) j qs acts →
+      (progress_in r).journal ≡ l → LacksOnly (bytes_in run.files) j qs acts →
       skipped.changes ≡ after.changes → skipped.items ≡ after.items →
       after.journal ≡ numbered id acts ++ k → GoAlike tools id run scope j k (record {
         value =

@@ -165,7 +165,7 @@ module _ (tools : List ℕ → ToolInput → ToolAnswer) (id : RunId) (run : Run
   entered-cousin bucket s t ps pt c =
       record {
         scope = refl;
-        part = refl;
+        task_scope = refl;
         unseen = refl;
         items = c.items;
         changes =

@@ -48,8 +48,9 @@ use Rattle.target_incremental.specs.declared.decision.Choice.TheVariants.{
   Part,
 }
 use Rattle.target_texts.specs.Lists.{Lists}
-use Rattle.target_body.specs.States.{Run, State, Stopped, faulted, failed, entered, state_of}
+use Rattle.target_body.specs.States.{Run, State, Stopped, faulted, failed, entered}
 use Rattle.target_body.specs.Pieces.{decided}
+use Rattle.build_declared.proofs.PartEnds.{progress_in}
 use Rattle.build_declared.specs.Chosen.{all_or_nothing}
 use Rattle.build_declared.specs.Declared.{PieceIsDeclared}
 use Rattle.build_declared.specs.Written.{bytes_in, AnyPath, since, is_one_of}
@@ -151,7 +152,7 @@ module _ (tools : List ℕ → ToolInput → ToolAnswer) (id : RunId) (run : Run
       } in
       let fine-mid : IsFine tools id run scope j k (Fine tools id run scope j k a) (Ok sk.0) =
       λ note i. ff note (subst (λ (z : End (Result State Stopped)).
-      In note (state_of z.value).notes) whole (sk.4 note i)) in
+      In note (progress_in z.value).notes) whole (sk.4 note i)) in
       let both = same-goes tools id run scope j k a fw fc bucket lists Skip s t ps pt c E mid he
       sk.1 fe fine-mid in
       let none : both.new ≡ [] = no-front both.new pt both.c_acts in
@@ -199,7 +200,7 @@ module _ (tools : List ℕ → ToolInput → ToolAnswer) (id : RunId) (run : Run
     where
       finish : (r : Result State Stopped) (l : Journal) (qs : List Act) (skipped after : State)
           (acts : List Act) → CousinEnd tools id run j k fw fc r (Ok skipped) qs pt →
-          (state_of r).journal ≡ l → LacksOnly (bytes_in run.files) j qs acts →
+          (progress_in r).journal ≡ l → LacksOnly (bytes_in run.files) j qs acts →
           skipped.changes ≡ after.changes → skipped.items ≡ after.items →
           after.journal ≡ numbered id acts ++ k →
           GoAlike tools id run scope j k (record { value = r; journal = l; acts = qs })

@@ -20,7 +20,6 @@ use Rattle.std.specs.Prelude.{Result, Ok, Err, codes}
 use Rattle.msb_values.specs.declared.mode.Mode.{Mode}
 use Rattle.msb_values.specs.declared.mode.Mode.TheVariants.{Incremental, Clean}
 use Rattle.msb_values.specs.declared.note.Note.{Note}
-use Rattle.msb_values.specs.declared.note.Note.TheVariants.{Fail}
 use Rattle.msb_values.specs.declared.act.Act.{Act}
 use Rattle.msb_values.specs.declared.scope.Scope.{Scope}
 use Rattle.msb_expand.specs.declared.lens.Bucket.{Bucket}
@@ -30,7 +29,6 @@ use Rattle.result_cache.specs.declared.record.Record.{Record}
 use Rattle.result_cache.specs.declared.run.RunId.{RunId}
 use Rattle.result_cache.specs.Journal.{Journal, record_of}
 use Rattle.build_world.specs.Elements.{attribute_of}
-use Rattle.build_world.specs.Faults.{fault_text}
 use Rattle.build_world.specs.Instances.{UsedTarget}
 use Rattle.build_world.specs.declared.fault.EvalFault.{EvalFault}
 use Rattle.build_meaning.specs.Walk.{Outcome}
@@ -58,14 +56,13 @@ use Rattle.target_body.specs.States.{
   Stopped,
   faulted,
   failed,
-  state_of,
   begun,
   entered,
-  with_notes,
   or_stop,
-  place_in,
+  context_in,
   outcome_of,
   run_at,
+  stop_at,
 }
 use Rattle.target_body.specs.Pieces.{
   lists_at,
@@ -77,6 +74,7 @@ use Rattle.target_body.specs.Pieces.{
   bucket_by,
 }
 use Rattle.target_body.specs.Bodies.{body, buckets_by, work_by, body_by}
+use Rattle.build_declared.proofs.PartEnds.{progress_in}
 use Rattle.build_declared.specs.Chosen.{all_of, all_or_nothing}
 use Rattle.build_declared.specs.Declared.{
   MayChoose,
@@ -364,7 +362,7 @@ all-may tools id run lists (Part old) e =
     absurd (never lists.inputs lists.outputs (Part old) e tt)
 
 -- the notes of a run are those of its record
-pub notes-of : (r : Result State Stopped) (note : Note) → In note (state_of r).notes →
+pub notes-of : (r : Result State Stopped) (note : Note) → In note (progress_in r).notes →
     In note (outcome_of r).notes
 notes-of (Ok s) note i = i
 notes-of (Err stop) note i = i
@@ -399,8 +397,8 @@ module _ (tools : List ℕ → ToolInput → ToolAnswer) (files : List File)
           record { acted = λ p. inl refl; left_out = λ p b n e. absurd (cc) };
     }
 
-    pub buckets-same : target_buckets (place_in run s0 scope) target.element
-        ≡ target_buckets (place_in run t0 scope) target.element
+    pub buckets-same : target_buckets (context_in run s0 scope) target.element
+        ≡ target_buckets (context_in run t0 scope) target.element
     buckets-same = ap (λ l. target_buckets (item_context l id.instance.path scope) target.element)
         ((looks-same files AnyPath).paths j k a)
 
@@ -443,7 +441,7 @@ module _ (tools : List ℕ → ToolInput → ToolAnswer) (files : List File)
         )) (sym (clean-all run)) ac) o lacks (λ act i. tt) tt
 
     pub takes-clean : (bucket : Bucket) (y : State) → lists_at run bucket y ≡ Ok None → ⊥
-    takes-clean bucket y e = lists-there (in_target (place_in run y y.scope) bucket) target
+    takes-clean bucket y e = lists-there (in_target (context_in run y y.scope) bucket) target
         takes e
 
     abbrev pub first : Bucket → State → Work (Result State Stopped)
@@ -461,22 +459,22 @@ module _ (tools : List ℕ → ToolInput → ToolAnswer) (files : List File)
       pub first_fine : IsFine tools id run scope j k Good E.value
       pub second_fine : IsFine tools id run scope j k Good F.value
 
-    from-w : (found : List Bucket) → target_buckets (place_in run s0 scope) target.element
+    from-w : (found : List Bucket) → target_buckets (context_in run s0 scope) target.element
         ≡ Ok found → (E : End (Result State Stopped)) →
         end_of tools id (buckets_by (choice_of Incremental run) run scope s0) j [] ≡ Some E →
         end_of tools id (each_in_turn first found s0) j [] ≡ Some E
     from-w found ew E h = sym (ap (λ z. end_of tools id (unless_stopped (or_failed (or_stop s0 z))
         (λ found. each_in_turn first found s0)) j []) ew) ∙ h
 
-    from-c : (found : List Bucket) → target_buckets (place_in run t0 scope) target.element
+    from-c : (found : List Bucket) → target_buckets (context_in run t0 scope) target.element
         ≡ Ok found → (F : End (Result State Stopped)) →
         end_of tools id (buckets_by all_of run scope t0) k [] ≡ Some F →
         end_of tools id (each_in_turn second found t0) k [] ≡ Some F
     from-c found ec F h = sym (ap (λ z. end_of tools id (unless_stopped (or_failed (or_stop t0 z))
         (λ found. each_in_turn second found t0)) k []) ec) ∙ h
 
-    pub both-end : (found : List Bucket) → target_buckets (place_in run s0 scope) target.element
-        ≡ Ok found → target_buckets (place_in run t0 scope) target.element ≡ Ok found →
+    pub both-end : (found : List Bucket) → target_buckets (context_in run s0 scope) target.element
+        ≡ Ok found → target_buckets (context_in run t0 scope) target.element ≡ Ok found →
         (pieces : List Piece) → RunIsDeclared tools id run scope k pieces →
         BothEnd (Fine tools id run scope j k a) found
     both-end found ew ec pieces r =
@@ -522,8 +520,8 @@ module _ (tools : List ℕ → ToolInput → ToolAnswer) (files : List File)
         F.acts g.ends in done-so E F he hf o.0 o.1
 
     by-buckets : (x : Result (List Bucket) EvalFault) →
-        target_buckets (place_in run s0 scope) target.element ≡ x →
-        target_buckets (place_in run t0 scope) target.element ≡ x →
+        target_buckets (context_in run s0 scope) target.element ≡ x →
+        target_buckets (context_in run t0 scope) target.element ≡ x →
         DeclaredBy tools id run scope k (pieces_in tools id all_of run scope
         (or_stop t0 x) t0) → ((p : Piece) → In p
         (pieces_in tools id all_of run scope (or_stop t0 x) t0) →
@@ -531,14 +529,14 @@ module _ (tools : List ℕ → ToolInput → ToolAnswer) (files : List File)
     by-buckets (Err fault) ew ec declared fresh =
         let E : End (Result State Stopped) = record {
           value =
-              or_failed (Err (faulted (with_notes (Fail (fault_text fault) ∷ []) s0)));
+              or_failed (Err (stop_at fault s0));
           journal =
               j;
           acts = [];
         } in
         let F : End (Result State Stopped) = record {
           value =
-              or_failed (Err (faulted (with_notes (Fail (fault_text fault) ∷ []) t0)));
+              or_failed (Err (stop_at fault t0));
           journal =
               k;
           acts = [];
@@ -591,6 +589,6 @@ module _ (tools : List ℕ → ToolInput → ToolAnswer) (files : List File)
   pub runs-go : RunsGo tools files
   runs-go target scope id j k made a declared fresh takes fw fc =
       by-buckets target scope id j k made a takes fw fc
-      (target_buckets (place_in (run_at files id target)
+      (target_buckets (context_in (run_at files id target)
       (begun scope k) scope) target.element) (buckets-same target scope id j k made a takes fw
       fc) refl declared fresh

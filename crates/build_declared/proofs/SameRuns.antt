@@ -3,6 +3,8 @@
 use Rattle.std.proofs.Common.{
   ◌≡◌,
   ℕ,
+  zero,
+  suc,
   Bool,
   true,
   false,
@@ -10,6 +12,7 @@ use Rattle.std.proofs.Common.{
   [],
   ◌∷◌,
   ◌++◌,
+  length,
   Option,
   None,
   Some,
@@ -36,8 +39,6 @@ use Rattle.result_cache.specs.declared.request.RequestResult.{RequestResult}
 use Rattle.result_cache.specs.declared.record.Decision.TheVariants.{Failed as FailedWord}
 use Rattle.result_cache.specs.Journal.{Journal}
 use Rattle.build_world.specs.Elements.{At, children_of, attribute_of}
-use Rattle.build_world.specs.Faults.{fault_text}
-use Rattle.msb_values.specs.declared.note.Note.TheVariants.{Fail}
 use Rattle.build_world.specs.declared.fault.EvalFault.{EvalFault}
 use Rattle.build_meaning.specs.Walk.{Outcome}
 use Rattle.build_incremental.specs.Alike.{AlikeJournals}
@@ -45,7 +46,6 @@ use Rattle.build_incremental.specs.SideBySide.{AlikeBodies}
 use Rattle.element_texts.specs.Contexts.{in_bucket, item_context}
 use Rattle.msb_items.specs.TargetGroups.{group_changes}
 use Rattle.msb_files.specs.Views as views
-use Rattle.msb_files.specs.Views.{View}
 use Rattle.task_trait.specs.declared.failures.Failure.{Failure}
 use Rattle.task_trait.specs.declared.tools.Param.{Param}
 use Rattle.task_trait.specs.declared.tools.TaskOutput.{TaskOutput}
@@ -54,7 +54,7 @@ use Rattle.task_trait.specs.declared.tools.ToolAnswer.TheVariants.{Unknown, Made
 use Rattle.task_trait.specs.declared.tools.ToolInput.{ToolInput}
 use Rattle.task_kit.specs.Foreign.{foreign_input, foreign_output}
 use Rattle.task_kit.specs.Tasks.{answer}
-use Rattle.task_msbuild.specs.Plans.{plan_of, has_stopped}
+use Rattle.task_msbuild.specs.Plans.{next_calls, plan_of}
 use Rattle.task_msbuild.specs.Gathered.{gathered}
 use Rattle.task_msbuild.specs.declared.plans.Plan.{Plan}
 use Rattle.target_incremental.specs.declared.decision.Choice.{Choice}
@@ -73,7 +73,7 @@ use Rattle.target_texts.specs.Lists.{Lists, lists_by}
 use Rattle.target_texts.specs.Returned.{in_target, returns_of, returned_items}
 use Rattle.target_texts.specs.Batched.{target_buckets}
 use Rattle.target_texts.specs.OnErrors.{notes_by}
-use Rattle.target_body.specs.Work.{Work, done, calls, unless_stopped, each_in_turn}
+use Rattle.target_body.specs.Work.{Work, done, unless_stopped, each_in_turn}
 use Rattle.target_body.specs.States.{
   Run,
   State,
@@ -88,24 +88,22 @@ use Rattle.target_body.specs.States.{
   with_items,
   with_decision,
   with_changes,
-  with_changes_seen,
-  without_scope,
+  after_group,
+  stop_at,
   settled,
   or_stop,
   stopped_by,
   taken,
-  task_scope,
   view_of,
-  place_in,
+  context_in,
   outcome_of,
-  state_of,
+  Progress,
 }
 use Rattle.target_body.specs.Answers.{
   all_acted,
   given,
-  at_once,
-  in_order,
-  made,
+  call_at_once,
+  make_calls,
   msbuild,
   tool,
   not_built_in,
@@ -113,7 +111,7 @@ use Rattle.target_body.specs.Answers.{
   answered,
 }
 use Rattle.target_body.specs.Tasks.{
-  called_place,
+  call_context,
   failed_by,
   ended_by,
   outputs_if,
@@ -126,6 +124,7 @@ use Rattle.target_body.specs.Tasks.{
   inferred,
   then_inferred,
   task,
+  still_failed,
 }
 use Rattle.target_body.specs.Children.{
   group,
@@ -197,7 +196,7 @@ module _ (run : Run) (W : List ℕ → Type 0) (looks : LooksSame run.files W) w
   Ends = TwinEnd T W
 
   place-same : (s t : State) (scope : Scope) → Same s t →
-      place_in run s scope ≡ place_in run t scope
+      context_in run s scope ≡ context_in run t scope
   place-same s t scope h = ap (λ ps. item_context ps run.instance.path scope)
       (looks.paths s.journal t.journal h.alike)
 
@@ -208,12 +207,13 @@ module _ (run : Run) (W : List ℕ → Type 0) (looks : LooksSame run.files W) w
   acted-same s t h = ap (λ (z : State). z.written) h.same
 
   -- where the texts of a place give the same
-  at-place : (s t : State) → Same s t → place_in run s s.scope ≡ place_in run t t.scope
-  at-place s t h = place-same s t s.scope h ∙ ap (place_in run t) (scope-same s t h)
+  at-place : (s t : State) → Same s t → context_in run s s.scope ≡ context_in run t t.scope
+  at-place s t h = place-same s t s.scope h ∙ ap (context_in run t) (scope-same s t h)
 
-  at-tasks : (s t : State) → Same s t → place_in run s (task_scope s)
-      ≡ place_in run t (task_scope t)
-  at-tasks s t h = place-same s t (task_scope s) h ∙ ap (place_in run t) (ap task_scope h.same)
+  at-tasks : (s t : State) → Same s t → context_in run s s.task_scope
+      ≡ context_in run t t.task_scope
+  at-tasks s t h = place-same s t s.task_scope h
+      ∙ ap (context_in run t) (ap (λ (z : State). z.task_scope) h.same)
 
   -- ---- what is made in a state
 
@@ -278,55 +278,34 @@ module _ (run : Run) (W : List ℕ → Type 0) (looks : LooksSame run.files W) w
   TwinResults x y = Same x.0 y.0 × (x.1 ≡ y.1)
 
   once-twin : (keys : List RequestKey) (s t : State) → Same s t →
-      AlikeWork T W TwinResults (at_once keys s) (at_once keys t)
+      AlikeWork T W TwinResults (call_at_once keys s) (call_at_once keys t)
   once-twin [] s t h = (h, refl)
   once-twin (key ∷ keys) s t h = (refl, refl, λ answers j k a. (journal-twin s t h j k a, refl))
 
-  order-twin : (plan : Plan) (answers : List RequestResult) (keys : List RequestKey) (s t : State) →
-      Same s t → AlikeWork T W TwinResults (in_order plan answers keys s)
-      (in_order plan answers keys t)
-  order-twin plan answers [] s t h = (h, refl)
-  order-twin plan answers (key ∷ keys) s t h = go (has_stopped plan answers)
-      (λ more j k a. order-twin plan (answers ++ more) keys (with_journal j s) (with_journal k t)
-      (journal-twin s t h j k a))
-    where
-      go : (b : Bool) → ((more : List RequestResult) (j k : Journal) → AlikeJournals T W j k →
-          AlikeWork T W TwinResults (in_order plan (answers ++ more) keys (with_journal j s))
-          (in_order plan (answers ++ more) keys (with_journal k t))) →
-          AlikeWork T W TwinResults
-          (elim b [
-            | true ↦ done (s, answers)
-            | false ↦ calls key []
-                (λ more journal. in_order plan (answers ++ more) keys (with_journal journal s))
-          ])
-          (elim b [
-            | true ↦ done (t, answers)
-            | false ↦ calls key []
-                (λ more journal. in_order plan (answers ++ more) keys (with_journal journal t))
-          ])
-      go true ih = (h, refl)
-      go false ih = (refl, refl, ih)
-
-  made-twin : (plan : Plan) (s t : State) → Same s t →
-      AlikeWork T W TwinResults (made plan s) (made plan t)
-  made-twin plan s t h = go plan.parallel
-    where
-      go : (b : Bool) → AlikeWork T W TwinResults (elim b [
-        | true ↦ at_once plan.calls s
-        | false ↦ in_order plan [] plan.calls s
-      ])
-          (elim b [ true ↦ at_once plan.calls t | false ↦ in_order plan [] plan.calls t ])
-      go true = once-twin plan.calls s t h
-      go false = order-twin plan [] plan.calls s t h
+  calls-twin : (rounds : ℕ) (plan : Plan) (answers : List RequestResult) (s t : State) →
+      Same s t → AlikeWork T W TwinResults (make_calls rounds plan answers s)
+      (make_calls rounds plan answers t)
+  calls-twin zero plan answers s t h = (h, refl)
+  calls-twin (suc rounds) plan answers s t h =
+      bound T W TwinResults TwinResults (call_at_once (next_calls plan answers) s)
+      (call_at_once (next_calls plan answers) t)
+      (λ x. make_calls rounds plan (answers ++ x.1) x.0)
+      (λ x. make_calls rounds plan (answers ++ x.1) x.0)
+      (once-twin (next_calls plan answers) s t h)
+      (λ x y e. subst (λ (results : List RequestResult).
+      AlikeWork T W TwinResults (make_calls rounds plan (answers ++ x.1) x.0)
+      (make_calls rounds plan (answers ++ results) y.0)) e.1
+      (calls-twin rounds plan (answers ++ x.1) x.0 y.0 e.0))
 
   msbuild-twin : (params : List Param) (s t : State) → Same s t →
       Answers (msbuild run s params) (msbuild run t params)
   msbuild-twin params s t h =
       let plan : Plan = plan_of run.files (folder_of run.instance.path) run.instance.globals params
       in
-      bound T W TwinResults TwinOutput (made plan s) (made plan t)
+      bound T W TwinResults TwinOutput (make_calls (length plan.calls) plan [] s)
+      (make_calls (length plan.calls) plan [] t)
       (λ x. done (x.0, gathered plan x.1)) (λ x. done (x.0, gathered plan x.1))
-      (made-twin plan s t h) (λ x y e. (e.0, ap (gathered plan) e.1))
+      (calls-twin (length plan.calls) plan [] s t h) (λ x y e. (e.0, ap (gathered plan) e.1))
 
   tool-twin : (name : List ℕ) (x : Result ToolInput Failure) (s t : State) → Same s t →
       Answers (tool name s x) (tool name t x)
@@ -391,7 +370,7 @@ module _ (run : Run) (W : List ℕ → Type 0) (looks : LooksSame run.files W) w
   and-twin (Err d) (Err e) f g h next = h
 
   call-place : (s t : State) (bucket : Bucket) → Same s t →
-      called_place run s bucket ≡ called_place run t bucket
+      call_context run s bucket ≡ call_context run t bucket
   call-place s t bucket h = ap (λ p. in_bucket p bucket) (at-tasks s t h)
 
   answered-to : (e : At) (gives : Bool) (bucket : Bucket) (on_error : OnError)
@@ -400,13 +379,13 @@ module _ (run : Run) (W : List ℕ → Type 0) (looks : LooksSame run.files W) w
   answered-to e gives bucket on_error x y h =
       subst (λ o. Ends (answered_to run e gives bucket on_error x)
       (answered_to run e gives bucket on_error (y.0, o))) h.1
-      (and-twin (taken (outputs_if gives (called_place run x.0 bucket) x.1.outputs e)
+      (and-twin (taken (outputs_if gives (call_context run x.0 bucket) x.1.outputs e)
       (with_notes (notes_by on_error x.1.notes) x.0))
-      (taken (outputs_if gives (called_place run y.0 bucket) x.1.outputs e)
+      (taken (outputs_if gives (call_context run y.0 bucket) x.1.outputs e)
       (with_notes (notes_by on_error x.1.notes) y.0))
       (ended_by on_error x.1.ok) (ended_by on_error x.1.ok)
-      (taken-same (outputs_if gives (called_place run x.0 bucket) x.1.outputs e)
-      (outputs_if gives (called_place run y.0 bucket) x.1.outputs e)
+      (taken-same (outputs_if gives (call_context run x.0 bucket) x.1.outputs e)
+      (outputs_if gives (call_context run y.0 bucket) x.1.outputs e)
       (with_notes (notes_by on_error x.1.notes) x.0)
       (with_notes (notes_by on_error x.1.notes) y.0)
       (ap (λ p. outputs_if gives p x.1.outputs e) (call-place x.0 y.0 bucket h.0))
@@ -438,33 +417,30 @@ module _ (run : Run) (W : List ℕ → Type 0) (looks : LooksSame run.files W) w
   call-twin : (e : At) (gives : Bool) (bucket : Bucket) (s t : State) → Same s t →
       Goes (call run e gives bucket s) (call run e gives bucket t)
   call-twin e gives bucket s t h =
-      read-twin (readied (called_place run s bucket) e)
-      (readied (called_place run t bucket) e) s t (called_with run e gives bucket s)
+      read-twin (readied (call_context run s bucket) e)
+      (readied (call_context run t bucket) e) s t (called_with run e gives bucket s)
       (called_with run e gives bucket t)
       (ap (λ p. readied p e) (call-place s t bucket h)) h (called-with e gives bucket s t h)
 
   called-twin : (e : At) (gives : Bool) (s t : State) → Same s t →
       Goes (called run e gives s) (called run e gives t)
   called-twin e gives s t h =
-      read-twin (task_buckets (place_in run s (task_scope s)) e)
-      (task_buckets (place_in run t (task_scope t)) e) s t
+      read-twin (task_buckets (context_in run s s.task_scope) e)
+      (task_buckets (context_in run t t.task_scope) e) s t
       (λ buckets. each_in_turn (call run e gives) buckets s)
       (λ buckets. each_in_turn (call run e gives) buckets t)
       (ap (λ p. task_buckets p e) (at-tasks s t h)) h (λ buckets. each-twin T W (call run e gives)
       (call run e gives) (call-twin e gives) buckets s t h)
 
   inferred-twin : (e : At) (s t : State) → Same s t → Ends (inferred run e s) (inferred run e t)
-  inferred-twin e s t h = taken-same (inferred_at (place_in run s s.scope) e)
-      (inferred_at (place_in run t t.scope) e) s t (ap (λ p. inferred_at p e) (at-place s t h)) h
+  inferred-twin e s t h = taken-same (inferred_at (context_in run s s.scope) e)
+      (inferred_at (context_in run t t.scope) e) s t (ap (λ p. inferred_at p e) (at-place s t h)) h
 
-  state-twin : (x y : Result State Stopped) → Ends x y → Same (state_of x) (state_of y)
-  state-twin (Ok s) (Ok t) h = h
-  state-twin (Ok s) (Err e) h = absurd h
-  state-twin (Err d) (Ok t) h = absurd h
-  state-twin (Err (faulted s)) (Err (faulted t)) h = h
-  state-twin (Err (failed s)) (Err (failed t)) h = h
-  state-twin (Err (faulted s)) (Err (failed t)) h = absurd h
-  state-twin (Err (failed s)) (Err (faulted t)) h = absurd h
+  still-twin : (x y : Result State Stopped) → Ends x y → Ends (still_failed x) (still_failed y)
+  still-twin (Ok s) (Ok t) h = h
+  still-twin (Ok s) (Err e) h = absurd h
+  still-twin (Err d) (Ok t) h = absurd h
+  still-twin (Err d) (Err e) h = h
 
   then-inferred : (e : At) (x y : Result State Stopped) → Ends x y →
       Ends (then_inferred run e x) (then_inferred run e y)
@@ -472,8 +448,8 @@ module _ (run : Run) (W : List ℕ → Type 0) (looks : LooksSame run.files W) w
   then-inferred e (Ok s) (Err d) h = absurd h
   then-inferred e (Err d) (Ok t) h = absurd h
   then-inferred e (Err (failed s)) (Err (failed t)) h =
-      state-twin (inferred run e s) (inferred run e t) (inferred-twin e s t h)
-  then-inferred e (Err (faulted s)) (Err (faulted t)) h = h
+      still-twin (inferred run e s) (inferred run e t) (inferred-twin e s t h)
+  then-inferred e (Err (faulted p)) (Err (faulted q)) h = h
   then-inferred e (Err (faulted s)) (Err (failed t)) h = absurd h
   then-inferred e (Err (failed s)) (Err (faulted t)) h = absurd h
 
@@ -491,18 +467,17 @@ module _ (run : Run) (W : List ℕ → Type 0) (looks : LooksSame run.files W) w
 
   group-twin : (e : At) (s t : State) → Same s t → Ends (group run e s) (group run e t)
   group-twin e s t h =
-      subst (λ x. Ends (group run e s) (map_ok (λ changes. with_changes_seen changes t)
-      (or_stop (without_scope t) x))) (ap (λ p. group_changes p e) (at-place s t h))
-      (go (group_changes (place_in run s s.scope) e))
+      subst (λ x. Ends (group run e s) (map_ok (λ changes. after_group changes t) (or_stop t x)))
+      (ap (λ p. group_changes p e) (at-place s t h))
+      (go (group_changes (context_in run s s.scope) e))
     where
       go : (x : Result (List Change) EvalFault) →
-          Ends (map_ok (λ changes. with_changes_seen changes s) (or_stop (without_scope s) x))
-          (map_ok (λ changes. with_changes_seen changes t) (or_stop (without_scope t) x))
-      go (Ok changes) = by-twin T W (λ z. Same (with_changes_seen changes s)
-          (with_changes_seen changes z)) s t h (λ k a. record { alike = a; same = refl })
-      go (Err fault) = by-twin T W (λ z. Ends (map_ok (λ changes. with_changes_seen changes s)
-          (or_stop (without_scope s) (Err fault))) (map_ok (λ changes. with_changes_seen changes z)
-          (or_stop (without_scope z) (Err fault)))) s t h (λ k a. record { alike = a; same = refl })
+          Ends (map_ok (λ changes. after_group changes s) (or_stop s x))
+          (map_ok (λ changes. after_group changes t) (or_stop t x))
+      go (Ok changes) = by-twin T W (λ z. Same (after_group changes s) (after_group changes z)) s t
+          h (λ k a. record { alike = a; same = refl })
+      go (Err fault) = by-twin T W (λ z. TwinStop T W (stop_at fault s) (stop_at fault z)) s t h
+          (λ k a. record { alike = a; same = refl })
 
   child-by : (kind : Kind) (choice : Choice) (e : At) (s t : State) → Same s t →
       Goes (child_by kind run choice e s) (child_by kind run choice e t)
@@ -558,7 +533,7 @@ module _ (run : Run) (W : List ℕ → Type 0) (looks : LooksSame run.files W) w
       same None = refl
       same (Some written) =
           ap (λ p. returned_items p bucket run.target.element s.items written) (at-place s t h)
-          ∙ ap (λ l. returned_items (place_in run t t.scope) bucket run.target.element l written)
+          ∙ ap (λ l. returned_items (context_in run t t.scope) bucket run.target.element l written)
           (ap (λ (z : State). z.items) h.same)
 
       go : (x : Result (List Item) EvalFault) → Ends (map_ok (λ items. with_items items s)
@@ -597,9 +572,10 @@ module _ (run : Run) (W : List ℕ → Type 0) (looks : LooksSame run.files W) w
   failed-so (Ok s) (Ok t) h = h
   failed-so (Ok s) (Err e) h = absurd h
   failed-so (Err d) (Ok t) h = absurd h
-  failed-so (Err (faulted s)) (Err (faulted t)) h =
-      by-twin T W (λ z. Same (with_decision FailedWord s)
-      (with_decision FailedWord z)) s t h (λ k a. record { alike = a; same = refl })
+  failed-so (Err (faulted p)) (Err (faulted q)) h = record {
+    alike = h.alike;
+    same = ap (λ (z : Progress). record z { decisions = z.decisions ++ FailedWord ∷ [] }) h.same;
+  }
   failed-so (Err (failed s)) (Err (failed t)) h =
       by-twin T W (λ z. Same (with_decision FailedWord s)
       (with_decision FailedWord z)) s t h (λ k a. record { alike = a; same = refl })
@@ -660,7 +636,7 @@ module _ (run : Run) (W : List ℕ → Type 0) (looks : LooksSame run.files W) w
         (unless_stopped (or_failed (or_stop t z))
         (λ found. each_in_turn (bucket_by choose' run scope) found t)))
         (ap (λ p. target_buckets p run.target.element) (at-place s t h))
-        (go (target_buckets (place_in run s s.scope) run.target.element))
+        (go (target_buckets (context_in run s s.scope) run.target.element))
       where
         go : (x : Result (List Bucket) EvalFault) →
             Goes (unless_stopped (or_failed (or_stop s x))
@@ -671,8 +647,8 @@ module _ (run : Run) (W : List ℕ → Type 0) (looks : LooksSame run.files W) w
             (bucket_by choose' run scope) bucket-twin found s t h
         go (Err fault) =
             by-twin T W (λ z. TwinStop T W (as_failed
-            (faulted (with_notes (Fail (fault_text fault) ∷ []) s)))
-            (as_failed (faulted (with_notes (Fail (fault_text fault) ∷ []) z)))) s t h
+            (stop_at fault s))
+            (as_failed (stop_at fault z))) s t h
             (λ k a. record { alike = a; same = refl })
 
     pub work-twin : (j k : Journal) → AlikeJournals T W j k →

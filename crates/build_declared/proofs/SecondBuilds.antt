@@ -65,7 +65,7 @@ use Rattle.task_trait.specs.declared.tools.ToolInput.{ToolInput}
 use Rattle.target_texts.specs.Returned.{in_target}
 use Rattle.target_body.specs.Bodies.{body, buckets_at}
 use Rattle.target_body.specs.Pieces.{lists_at, choice_of, Chooser, bucket_by}
-use Rattle.target_body.specs.States.{Run, State, Stopped, begun, entered, place_in, run_at}
+use Rattle.target_body.specs.States.{Run, State, Stopped, begun, entered, context_in, run_at}
 use Rattle.request_machine.specs.Walk.{Site}
 use Rattle.build_declared.specs.Declared.{IsDeclared, clean_pieces}
 use Rattle.build_declared.specs.Ends.{End, end_of}
@@ -224,7 +224,7 @@ module _ (tools : List ℕ → ToolInput → ToolAnswer) (files : List File) (ro
   no-piece (Some target) scope id k made n =
       let run : Run = run_at files id target in
       pieces-none tools id (choice_of Clean run) run scope
-      (λ bucket s. no-lists (in_target (place_in run s s.scope) bucket) target
+      (λ bucket s. no-lists (in_target (context_in run s s.scope) bucket) target
       (attribute_of (codes "Inputs") target.element)
       (attribute_of (codes "Outputs") target.element) refl refl (n target refl)) k
 

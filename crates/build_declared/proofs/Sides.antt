@@ -48,7 +48,7 @@ use Rattle.element_texts.specs.Contexts.{ElementContext}
 use Rattle.target_texts.specs.Lists.{Lists, lists_by}
 use Rattle.target_texts.specs.Returned.{in_target}
 use Rattle.target_body.specs.Bodies.{body}
-use Rattle.target_body.specs.States.{Run, place_in, run_at}
+use Rattle.target_body.specs.States.{Run, context_in, run_at}
 use Rattle.target_body.specs.Pieces.{lists_at, choice_of}
 use Rattle.request_machine.specs.Requests.{Project, all_targets, target_at, has_no_targets}
 use Rattle.request_machine.specs.Walk.{run_of, nothing_ran, Site, walk_unless}
@@ -127,7 +127,7 @@ module _ (tools : List ℕ → ToolInput → ToolAnswer) (files : List File) (W 
       let agree : ChooseSame run W (looks-same files W) (choice_of Incremental run)
       (choice_of Clean run) = λ bucket lists s t h e.
       absurd (never (lists_at run bucket s) lists
-      (no-lists (in_target (place_in run s s.scope) bucket) target
+      (no-lists (in_target (context_in run s s.scope) bucket) target
       (attribute_of (codes "Inputs") target.element)
       (attribute_of (codes "Outputs") target.element) refl refl n) e) in
       step_by_step (body-twin run W (looks-same files W) (choice_of Incremental run)

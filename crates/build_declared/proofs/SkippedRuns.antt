@@ -23,7 +23,6 @@ use Rattle.std.proofs.Common.{
 }
 use Rattle.std.specs.Prelude.{Result, Ok, Err}
 use Rattle.msb_values.specs.declared.mode.Mode.TheVariants.{Incremental}
-use Rattle.msb_values.specs.declared.note.Note.TheVariants.{Fail}
 use Rattle.msb_values.specs.declared.act.Act.{Act}
 use Rattle.msb_values.specs.declared.scope.Scope.{Scope}
 use Rattle.msb_expand.specs.declared.lens.Bucket.{Bucket}
@@ -33,7 +32,6 @@ use Rattle.result_cache.specs.declared.record.Record.{Record}
 use Rattle.result_cache.specs.declared.run.RunId.{RunId}
 use Rattle.result_cache.specs.Lists.{In}
 use Rattle.result_cache.specs.Journal.{Journal}
-use Rattle.build_world.specs.Faults.{fault_text}
 use Rattle.build_world.specs.Instances.{UsedTarget}
 use Rattle.build_world.specs.declared.fault.EvalFault.{EvalFault}
 use Rattle.build_meaning.specs.Walk.{Outcome, makes}
@@ -55,18 +53,17 @@ use Rattle.target_body.specs.States.{
   Run,
   State,
   Stopped,
-  faulted,
   begun,
   entered,
-  with_notes,
   or_stop,
-  place_in,
-  state_of,
+  context_in,
   outcome_of,
   run_at,
+  stop_at,
 }
 use Rattle.target_body.specs.Pieces.{lists_at, choice_of, or_failed, bucket_by}
 use Rattle.target_body.specs.Bodies.{body, buckets_by}
+use Rattle.build_declared.proofs.PartEnds.{progress_in}
 use Rattle.build_declared.specs.Chosen.{all_of, all_or_nothing}
 use Rattle.build_declared.specs.Declared.{RunIsDeclared, DeclaredBy, DeclaredAt, clean_pieces}
 use Rattle.build_declared.specs.Fresh.{PieceIsFresh, FreshAt}
@@ -117,7 +114,7 @@ words-of : (r : Result State Stopped) → HasIdle r → (word : Decision) →
 words-of (Ok s) h = h
 words-of (Err d) h = h
 
-decisions-of : (r : Result State Stopped) → (outcome_of r).decisions ≡ (state_of r).decisions
+decisions-of : (r : Result State Stopped) → (outcome_of r).decisions ≡ (progress_in r).decisions
 decisions-of (Ok s) = refl
 decisions-of (Err d) = refl
 
@@ -146,7 +143,7 @@ module _ (tools : List ℕ → ToolInput → ToolAnswer) (files : List File) (ta
 
   by-end : (r : Result State Stopped) →
       buckets_by (choice_of Incremental run) run scope s0 ≡ done r → HasIdle r →
-      up_to_date (state_of r).decisions ≡ length (pieces_met tools files target scope id j) →
+      up_to_date (progress_in r).decisions ≡ length (pieces_met tools files target scope id j) →
       ((p : Piece) → In p (pieces_met tools files target scope id j) →
       choice_of Incremental run p.lists p.from ≡ Skip) → IdleBody
   by-end r over words many skips = record {
@@ -243,8 +240,8 @@ module _ (tools : List ℕ → ToolInput → ToolAnswer) (files : List File) (ta
   -- ---- both
 
   by-buckets : (x : Result (List Bucket) EvalFault) →
-      target_buckets (place_in run s0 scope) target.element ≡ x →
-      target_buckets (place_in run t0 scope) target.element ≡ x →
+      target_buckets (context_in run s0 scope) target.element ≡ x →
+      target_buckets (context_in run t0 scope) target.element ≡ x →
       DeclaredBy tools id run scope k (pieces_in tools id all_of run scope (or_stop t0 x) t0) →
       ((p : Piece) → In p (pieces_in tools id all_of run scope (or_stop t0 x) t0) →
       PieceIsFresh tools id run p) →
@@ -252,7 +249,7 @@ module _ (tools : List ℕ → ToolInput → ToolAnswer) (files : List File) (ta
       IsNew tools id run scope j k a p) → IdleBody
   by-buckets (Err fault) ew ec declared fresh new =
       let r : Result State Stopped =
-      or_failed (Err (faulted (with_notes (Fail (fault_text fault) ∷ []) s0))) in
+      or_failed (Err (stop_at fault s0)) in
       let met : pieces_met tools files target scope id j ≡ [] =
       ap (λ z. pieces_in tools id (choice_of Incremental run) run scope (or_stop s0 z) s0) ew in
       by-end r
@@ -269,10 +266,10 @@ module _ (tools : List ℕ → ToolInput → ToolAnswer) (files : List File) (ta
 
       finish : IdleAll tools id run scope j k found s0 → IdleBody
       finish all =
-          let many : up_to_date (state_of all.end).decisions
+          let many : up_to_date (progress_in all.end).decisions
           ≡ 0 + length (pieces_among tools id (choice_of Incremental run) run scope found s0 []) =
           all.as_many in
-          let same : up_to_date (state_of all.end).decisions
+          let same : up_to_date (progress_in all.end).decisions
           ≡ length (pieces_among tools id (choice_of Incremental run) run scope found s0 []) =
           omega (arith, many) in
           by-end all.end
@@ -309,6 +306,6 @@ module _ (tools : List ℕ → ToolInput → ToolAnswer) (files : List File) (ta
       ((p : Piece) → In p (clean_pieces tools files (Some target) scope id k) →
       IsNew tools id run scope j k a p) → IdleBody
   idle-run declared fresh new =
-      by-buckets (target_buckets (place_in run t0 scope) target.element)
+      by-buckets (target_buckets (context_in run t0 scope) target.element)
       (buckets-same tools files (pieces-go tools files) target scope id j k made a takes fw fc)
       refl declared fresh new

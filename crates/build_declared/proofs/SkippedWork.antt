@@ -1,32 +1,16 @@
 -- A bucket that is skipped, or has nothing to do, is over at once: it writes nothing, uses no tool
 -- and calls nothing, and its record has one word more.
-use Rattle.std.proofs.Common.{
-  ◌≡◌,
-  ℕ,
-  List,
-  [],
-  ◌∷◌,
-  ◌++◌,
-  fold,
-  Option,
-  None,
-  Some,
-  refl,
-  ap,
-  ◌∙◌,
-}
+use Rattle.std.proofs.Common.{◌≡◌, ℕ, List, [], ◌∷◌, ◌++◌, Option, None, Some, refl, ap, ◌∙◌}
 use Rattle.std.specs.Prelude.{Result, Ok, Err}
 use Rattle.msb_laws.specs.Results.{map_ok}
 use Rattle.msb_values.specs.declared.change.Change.{Change}
 use Rattle.msb_values.specs.declared.item.Item.{Item}
-use Rattle.msb_values.specs.declared.note.Note.TheVariants.{Fail}
 use Rattle.msb_values.specs.declared.scope.Scope.{Scope}
 use Rattle.msb_elements.specs.Nodes.{name_of}
 use Rattle.msb_expand.specs.declared.lens.Bucket.{Bucket}
 use Rattle.result_cache.specs.declared.record.Decision.{Decision}
 use Rattle.result_cache.specs.declared.record.Decision.TheVariants.{UpToDate, NothingToDo, Failed}
 use Rattle.build_world.specs.Elements.{At, children_of}
-use Rattle.build_world.specs.Faults.{fault_text}
 use Rattle.build_world.specs.declared.fault.EvalFault.{EvalFault}
 use Rattle.msb_items.specs.TargetGroups.{group_changes}
 use Rattle.target_incremental.specs.declared.decision.Choice.TheVariants.{Skip, Nothing}
@@ -34,6 +18,7 @@ use Rattle.target_texts.specs.Inferred.{inferred_at}
 use Rattle.target_texts.specs.Lists.{Lists}
 use Rattle.target_texts.specs.Made.{Made}
 use Rattle.target_texts.specs.Returned.{returns_of}
+use Rattle.build_declared.proofs.PartEnds.{progress_in}
 use Rattle.target_body.specs.Work.{Work, done, followed_by, unless_stopped, each_in_turn}
 use Rattle.target_body.specs.States.{
   Run,
@@ -42,20 +27,17 @@ use Rattle.target_body.specs.States.{
   faulted,
   failed,
   entered,
-  with_notes,
   with_items,
   with_decision,
-  with_change,
   with_changes,
-  with_changes_seen,
-  without_scope,
+  after_group,
+  stop_at,
   settled,
   or_stop,
   stopped_by,
   taken,
-  place_in,
-  state_at,
-  state_of,
+  context_in,
+  progress_at,
 }
 use Rattle.target_body.specs.Tasks.{inferred}
 use Rattle.target_body.specs.Children.{
@@ -82,30 +64,26 @@ use Rattle.target_body.specs.Pieces.{
 
 -- ---- words
 
-taken-words : (m : Made) (s : State) → (state_of (taken m s)).decisions ≡ s.decisions
+taken-words : (m : Made) (s : State) → (progress_in (taken m s)).decisions ≡ s.decisions
 taken-words m s = go m.fault
   where
     go : (fault : Option EvalFault) →
-        (state_of (stopped_by fault (with_changes m.changes s))).decisions ≡ s.decisions
+        (progress_in (stopped_by fault (with_changes m.changes s))).decisions ≡ s.decisions
     go None = refl
     go (Some fault) = refl
 
-fold-words : (changes : List Change) (s : State) →
-    (fold with_change s changes).decisions ≡ s.decisions
-fold-words [] s = refl
-fold-words (change ∷ changes) s = fold-words changes (with_change s change)
-
 settled-words : (r : Result State Stopped) →
-    (state_of (map_ok settled r)).decisions ≡ (state_of r).decisions
-settled-words (Ok t) = fold-words t.unseen (record t { unseen = [] })
+    (progress_in (map_ok settled r)).decisions ≡ (progress_in r).decisions
+settled-words (Ok t) = refl
 settled-words (Err d) = refl
 
-group-words : (run : Run) (e : At) (s : State) → (state_of (group run e s)).decisions ≡ s.decisions
-group-words run e s = go (group_changes (place_in run s s.scope) e)
+group-words : (run : Run) (e : At) (s : State) →
+    (progress_in (group run e s)).decisions ≡ s.decisions
+group-words run e s = go (group_changes (context_in run s s.scope) e)
   where
     go : (x : Result (List Change) EvalFault) →
-        (state_of (map_ok (λ changes. with_changes_seen changes s)
-        (or_stop (without_scope s) x))).decisions ≡ s.decisions
+        (progress_in (map_ok (λ changes. after_group changes s) (or_stop s x))).decisions
+        ≡ s.decisions
     go (Ok changes) = refl
     go (Err fault) = refl
 
@@ -115,17 +93,17 @@ group-words run e s = go (group_changes (place_in run s s.scope) e)
 record Still (s : State) (v : Work (Result State Stopped)) : Type 0 where
   end : Result State Stopped
   at_once : v ≡ done end
-  words : (state_of end).decisions ≡ s.decisions
+  words : (progress_in end).decisions ≡ s.decisions
 
 -- what a bucket comes to behind some words, where this is the word for it
 abbrev EndsSo : Decision → List Decision → Result State Stopped → Type 0
 EndsSo word before (Ok t) = t.decisions ≡ before ++ word ∷ []
-EndsSo word before (Err d) = (state_at d).decisions ≡ before
+EndsSo word before (Err d) = (progress_at d).decisions ≡ before
 
 -- and with the word of a bucket in which the run has stopped
 abbrev pub EndsBy : Decision → List Decision → Result State Stopped → Type 0
 EndsBy word before (Ok t) = t.decisions ≡ before ++ word ∷ []
-EndsBy word before (Err d) = (state_at d).decisions ≡ before ++ Failed ∷ []
+EndsBy word before (Err d) = (progress_at d).decisions ≡ before ++ Failed ∷ []
 
 failed-by : (word : Decision) (before : List Decision) (r : Result State Stopped) →
     EndsSo word before r → EndsBy word before (or_failed r)
@@ -157,7 +135,7 @@ module _ (run : Run) where
     end = map_ok settled (inferred run e s);
     at_once = refl;
     words = settled-words (inferred run e s)
-        ∙ taken-words (inferred_at (place_in run s s.scope) e) s;
+        ∙ taken-words (inferred_at (context_in run s s.scope) e) s;
   }
 
   still-children : (es : List At) (s : State) → Still s (each_in_turn (child run Skip) es s)
@@ -167,7 +145,7 @@ module _ (run : Run) where
       go x.end x.at_once x.words (still-children es)
     where
       go : (r : Result State Stopped) → child run Skip e s ≡ done r →
-          (state_of r).decisions ≡ s.decisions →
+          (progress_in r).decisions ≡ s.decisions →
           ((t : State) → Still t (each_in_turn (child run Skip) es t)) →
           Still s (each_in_turn (child run Skip) (e ∷ es) s)
       go (Ok t) h w rest = let y = rest t in record {
@@ -202,7 +180,7 @@ module _ (run : Run) where
       let x = still-children (children_of run.target.element) s in go x.end x.at_once x.words
     where
       go : (r : Result State Stopped) → children run Skip s ≡ done r →
-          (state_of r).decisions ≡ s.decisions →
+          (progress_in r).decisions ≡ s.decisions →
           (r : Result State Stopped) × (decided run bucket Skip items s ≡ done r)
           × EndsSo UpToDate s.decisions r
       go (Ok t) h w = (
@@ -262,7 +240,7 @@ module _ (run : Run) where
     pub fault-over : (fault : EvalFault) → lists_at run bucket x ≡ Err fault →
         IsOver NothingToDo s.decisions (bucket_by choose run scope bucket s)
     fault-over fault e = record {
-      end = or_failed (Err (faulted (with_notes (Fail (fault_text fault) ∷ []) x)));
+      end = or_failed (Err (stop_at fault x));
       at_once = by-lists (Err fault) e;
       words = refl;
     }

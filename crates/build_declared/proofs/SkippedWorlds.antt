@@ -18,7 +18,7 @@ use Rattle.std.proofs.Common.{
   ◌∙◌,
   subst,
 }
-use Rattle.std.specs.Prelude.{Result, Ok, Err, codes}
+use Rattle.std.specs.Prelude.{Result, Ok, Err}
 use Rattle.msb_laws.specs.Asking.{Asking}
 use Rattle.msb_values.specs.declared.key.InstanceKey.{InstanceKey}
 use Rattle.msb_values.specs.declared.mode.Mode.TheVariants.{Incremental}
@@ -27,6 +27,7 @@ use Rattle.file_store.specs.Files.{file_at}
 use Rattle.file_store.specs.declared.tree.File.{File}
 use Rattle.target_order.specs.Visit.{Question, End, order}
 use Rattle.target_order.specs.declared.asks.OrderAnswer.{OrderAnswer}
+use Rattle.build_world.specs.Faults.{not_found_text}
 use Rattle.build_world.specs.Instances.{Instance, UsedTarget}
 use Rattle.build_world.specs.declared.world.World.{World as Build}
 use Rattle.msb_instance.specs.Evaluated.{evaluated}
@@ -127,7 +128,7 @@ module _ (files : List File) where
       ∙ go (file_at b.instance.path files)
     where
       go : (o : Option File) → instance_if files a o ≡ instance_if files b o
-      go None = ap (λ (i : InstanceKey). Err (unevaluated (i.path ++ codes ": not found"))) e
+      go None = ap (λ (i : InstanceKey). Err (unevaluated (not_found_text i.path))) e
       go (Some file) = ap (λ (i : InstanceKey). instance_by (evaluated files i)) e
 
   pub tells-request : (key : RequestKey) (j : Journal) →

@@ -15,7 +15,6 @@ use Rattle.std.proofs.Common.{
   Option,
   None,
   Some,
-  fold,
   append_assoc,
   refl,
   ap,
@@ -37,8 +36,6 @@ use Rattle.msb_expand.specs.declared.lens.Bucket.{Bucket}
 use Rattle.result_cache.specs.declared.record.Decision.{Decision}
 use Rattle.result_cache.specs.Journal.{Journal}
 use Rattle.build_world.specs.Elements.{At, children_of}
-use Rattle.build_world.specs.Faults.{fault_text}
-use Rattle.msb_values.specs.declared.note.Note.TheVariants.{Fail}
 use Rattle.build_world.specs.declared.fault.EvalFault.{EvalFault}
 use Rattle.build_incremental.specs.Alike.{AlikeJournals}
 use Rattle.element_texts.specs.Contexts.{ElementContext, in_bucket, item_context}
@@ -59,33 +56,27 @@ use Rattle.target_texts.specs.Returned.{returns_of, returned_items}
 use Rattle.target_texts.specs.OnErrors.{notes_by}
 use Rattle.target_body.specs.Work.{Work, done, followed_by, unless_stopped, each_in_turn}
 use Rattle.target_body.specs.States.{
-  with_change,
-  with_part,
-  part_after,
-  part_after_all,
   Run,
   State,
   Stopped,
-  faulted,
   failed,
   entered,
   with_notes,
   with_items,
   with_decision,
   with_changes,
-  with_changes_seen,
-  without_scope,
+  after_group,
+  stop_at,
   settled,
   or_stop,
   stopped_by,
   taken,
-  task_scope,
-  place_in,
-  state_of,
+  context_in,
+  stop_at,
 }
 use Rattle.target_body.specs.Answers.{given}
 use Rattle.target_body.specs.Tasks.{
-  called_place,
+  call_context,
   ended_by,
   answered_to,
   readied,
@@ -108,6 +99,7 @@ use Rattle.target_body.specs.Children.{
 }
 use Rattle.target_body.specs.Returned.{items_if, returned}
 use Rattle.target_body.specs.Pieces.{word_of, decided}
+use Rattle.build_declared.proofs.PartEnds.{progress_in}
 use Rattle.build_declared.specs.Written.{bytes_in, AnyPath}
 use Rattle.build_declared.specs.Ends.{End, end_of}
 use Rattle.build_declared.proofs.Alones.{some-same, end-bound}
@@ -120,7 +112,6 @@ use Rattle.result_cache.specs.declared.run.RunId.{RunId}
 use Rattle.msb_values.specs.declared.note.Note.{Note}
 use Rattle.std.specs.Option.{option_or}
 use Rattle.element_texts.specs.Contexts.{element_holds}
-use Rattle.msb_values.specs.Changes.{applied}
 use Rattle.std.proofs.Common.{append-nil, is_some}
 use Rattle.std.proofs.lemmas.Slice.Eq.{bytes_eq-Decides}
 use Rattle.target_texts.specs.Inferred.{inference, inference_if}
@@ -236,7 +227,7 @@ inference-so q e = go (element_holds q e)
 
 record Gave (t after : State) (changes : List Change) : Type 0 where
   scope : after.scope ≡ t.scope
-  part : after.part ≡ t.part
+  task_scope : after.task_scope ≡ t.task_scope
   items : after.items ≡ t.items
   unseen : after.unseen ≡ t.unseen ++ changes
   changed : after.changes ≡ t.changes ++ changes
@@ -248,10 +239,9 @@ GaveAll t after m = (m.fault ≡ None) × Gave t after m.changes
 gave-none : (t : State) → Gave t t []
 gave-none t = record {
   scope = refl;
-  part = refl;
+  task_scope = refl;
   items = refl;
-  unseen =
-      sym (append-nil t.unseen);
+  unseen = sym (append-nil t.unseen);
   changed = sym (append-nil t.changes);
   notes = λ note i. i;
 }
@@ -259,7 +249,7 @@ gave-none t = record {
 gave-more : (t u v : State) (a b : List Change) → Gave t u a → Gave u v b → Gave t v (a ++ b)
 gave-more t u v a b g h = record {
   scope = h.scope ∙ g.scope;
-  part = h.part ∙ g.part;
+  task_scope = h.task_scope ∙ g.task_scope;
   items = h.items ∙ g.items;
   unseen = h.unseen ∙ (ap (λ l. l ++ b) g.unseen ∙ append_assoc t.unseen a b);
   changed = h.changed ∙ (ap (λ l. l ++ b) g.changed ∙ append_assoc t.changes a b);
@@ -288,15 +278,15 @@ answered-gave t x on_error m after held h = go m.fault refl h
         results.and_then (stopped_by fault (with_changes m.changes
         (with_notes (notes_by on_error x.1.notes) x.0))) (ended_by on_error x.1.ok) ≡ Ok after →
         GaveAll t after m
-    go (Some fault) f e = absurd (err-ok (faulted (with_notes (Fail (fault_text fault) ∷ [])
-        (with_changes m.changes (with_notes (notes_by on_error x.1.notes) x.0)))) after e)
+    go (Some fault) f e = absurd (err-ok (stop_at fault (with_changes m.changes
+        (with_notes (notes_by on_error x.1.notes) x.0))) after e)
     go None f e = (
       f,
       subst (λ z. Gave t z m.changes)
           (ended-ok on_error x.1.ok (with_changes m.changes
           (with_notes (notes_by on_error x.1.notes) x.0)) after e) (record {
             scope = ap (λ (z : State). z.scope) held;
-            part = ap (λ (z : State). z.part) held;
+            task_scope = ap (λ (z : State). z.task_scope) held;
             items = ap (λ (z : State). z.items) held;
             unseen = ap (λ (z : State). z.unseen ++ m.changes) held;
             changed = ap (λ (z : State). z.changes ++ m.changes) held;
@@ -382,13 +372,14 @@ module _ (tools : List ℕ → ToolInput → ToolAnswer) (id : RunId) (r : Run) 
   place sc = item_context P r.instance.path sc
 
   place-so : (t : State) (ps : List Act) → Stands t.journal ps → InTree ps → (sc : Scope) →
-      t.scope ≡ sc → place_in r t t.scope ≡ place sc
+      t.scope ≡ sc → context_in r t t.scope ≡ place sc
   place-so t ps s i sc e = ap (λ l. item_context l r.instance.path t.scope)
       (paths-so t.journal ps s i) ∙ ap place e
 
   tasks-so : (t : State) (ps : List Act) → Stands t.journal ps → InTree ps → (sc : Scope) →
-      t.scope ≡ sc → t.part ≡ None → place_in r t (task_scope t) ≡ place sc
-  tasks-so t ps s i sc e n = ap (λ p. place_in r t (with_part p t.scope)) n ∙ place-so t ps s i sc e
+      t.task_scope ≡ sc → context_in r t t.task_scope ≡ place sc
+  tasks-so t ps s i sc e = ap (λ l. item_context l r.instance.path t.task_scope)
+      (paths-so t.journal ps s i) ∙ ap place e
 
   -- ---- calls
 
@@ -398,19 +389,19 @@ module _ (tools : List ℕ → ToolInput → ToolAnswer) (id : RunId) (r : Run) 
       (sym (some-same (record { value = x; journal = l; acts = ps }) E h))
 
   call-gave : (e : At) (sc : Scope) (bucket : Bucket) (t : State) (ps : List Act) →
-      Stands t.journal ps → t.scope ≡ sc → t.part ≡ None → (E : End (Result State Stopped)) →
+      Stands t.journal ps → t.task_scope ≡ sc → (E : End (Result State Stopped)) →
       end_of tools id (call r e true bucket t) t.journal ps ≡ Some E →
       (after : State) → E.value ≡ Ok after → InTree E.acts →
-      ((c : Called) → In c (called_if tools id r e t ps (readied (called_place r t bucket) e)) →
+      ((c : Called) → In c (called_if tools id r e t ps (readied (call_context r t bucket) e)) →
       ReturnsGiven tools id r c) →
       GaveAll t after (inference (in_bucket (place sc) bucket) e (task_of e))
-  call-gave e sc bucket t ps s hs hp E he after ev tree given =
+  call-gave e sc bucket t ps s hs E he after ev tree given =
       let st = call-steps tools id r k fc e true bucket t ps s.is E he in
       let start : InTree ps = in-tree-less st.more ps (subst InTree st.grown tree) in
       subst (GaveAll t after) (sym (inference-so q e))
       (subst (λ p. GaveAll t after (or_fault_made (readied p e) (made_if q e)))
-      (ap (λ p. in_bucket p bucket) (tasks-so t ps s start sc hs hp))
-      (go (readied (called_place r t bucket) e) he given))
+      (ap (λ p. in_bucket p bucket) (tasks-so t ps s start sc hs))
+      (go (readied (call_context r t bucket) e) he given))
     where
       q : ElementContext
       q = in_bucket (place sc) bucket
@@ -421,7 +412,7 @@ module _ (tools : List ℕ → ToolInput → ToolAnswer) (id : RunId) (r : Run) 
           ((c : Called) → In c (called_if tools id r e t ps x) → ReturnsGiven tools id r c) →
           GaveAll t after (or_fault_made x (made_if (in_bucket (place sc) bucket) e))
       go (Err fault) h c =
-          let stop : Stopped = faulted (with_notes (Fail (fault_text fault) ∷ []) t) in
+          let stop : Stopped = stop_at fault t in
           absurd (err-ok stop after (sym (over-is (Err stop) t.journal ps E h) ∙ ev))
       go (Ok None) h c = (
         refl,
@@ -450,11 +441,11 @@ module _ (tools : List ℕ → ToolInput → ToolAnswer) (id : RunId) (r : Run) 
           let tx : InTree x.0.acts = subst (λ (z : End (Result State Stopped)). InTree z.acts)
           (sym ex) tree in
           let there = tasks-so x.0.value.0 x.0.acts (stands-on s sx) tx sc
-          (ap (λ (z : State). z.scope) held ∙ hs) (ap (λ (z : State). z.part) held ∙ hp) in
+          (ap (λ (z : State). z.task_scope) held ∙ hs) in
           let called : Called = record { element = e; params = ready.1; answer = x.0.value.1 } in
           let rg = c called (subst (λ o. In called (answered_in tools id r e ready.1 o)) (sym x.1)
           (inl refl)) in
-          let same : outputs (called_place r x.0.value.0 bucket) x.0.value.1.outputs e
+          let same : outputs (call_context r x.0.value.0 bucket) x.0.value.1.outputs e
           ≡ outputs (in_bucket (place sc) bucket) ready.1 e =
           ap (λ p. outputs (in_bucket p bucket) x.0.value.1.outputs e) there
           ∙ outputs-by (in_bucket (place sc) bucket) x.0.value.1.outputs ready.1
@@ -462,15 +453,15 @@ module _ (tools : List ℕ → ToolInput → ToolAnswer) (id : RunId) (r : Run) 
           let value : answered_to r e true bucket ready.0 x.0.value ≡ Ok after =
           ap (λ (z : End (Result State Stopped)). z.value) ex ∙ ev in
           subst (GaveAll t after) same (answered-gave t x.0.value ready.0
-          (outputs (called_place r x.0.value.0 bucket) x.0.value.1.outputs e) after held value)
+          (outputs (call_context r x.0.value.0 bucket) x.0.value.1.outputs e) after held value)
 
   abbrev inferred_over : At → Scope → List Bucket → Made
   inferred_over e sc buckets = up_to_fault (λ bucket.
       inference (in_bucket (place sc) bucket) e (task_of e)) buckets
 
   abbrev BucketsGive : At → Scope → List Bucket → Type 0
-  BucketsGive e sc buckets = (t : State) (ps : List Act) → Stands t.journal ps → t.scope ≡ sc →
-      t.part ≡ None → (E : End (Result State Stopped)) →
+  BucketsGive e sc buckets = (t : State) (ps : List Act) → Stands t.journal ps →
+      t.task_scope ≡ sc → (E : End (Result State Stopped)) →
       end_of tools id (each_in_turn (call r e true) buckets t) t.journal ps ≡ Some E →
       (after : State) → E.value ≡ Ok after → InTree E.acts →
       ((c : Called) → In c (calls_among tools id r e buckets t ps) →
@@ -478,7 +469,7 @@ module _ (tools : List ℕ → ToolInput → ToolAnswer) (id : RunId) (r : Run) 
 
   next-give : (e : At) (sc : Scope) (bucket : Bucket) (buckets : List Bucket) →
       BucketsGive e sc buckets → BucketsGive e sc (bucket ∷ buckets)
-  next-give e sc bucket buckets ih t ps s hs hp E he after ev tree given =
+  next-give e sc bucket buckets ih t ps s hs E he after ev tree given =
       let next = each_in_turn (call r e true) buckets in
       let x = end-bound tools id (call r e true bucket t)
       (λ end. unless_stopped end next) t.journal ps E he in
@@ -493,8 +484,9 @@ module _ (tools : List ℕ → ToolInput → ToolAnswer) (id : RunId) (r : Run) 
           (sym (over-is (Err stop) X.journal X.acts E h) ∙ ev))
       go X hx (Ok u) hv h =
           let st = call-steps tools id r k fc e true bucket t ps s.is X hx in
-          let ju : u.journal ≡ X.journal = ap (λ v. (state_of v).journal) (sym hv) ∙ st.in_step in
-          let su : Stands u.journal X.acts = subst (λ v. Stands (state_of v).journal X.acts) hv
+          let ju : u.journal ≡ X.journal = ap (λ v. (progress_in v).journal) (sym hv)
+          ∙ st.in_step in
+          let su : Stands u.journal X.acts = subst (λ v. Stands (progress_in v).journal X.acts) hv
           (stands-on s st) in
           let h2 : end_of tools id (each_in_turn (call r e true) buckets u) u.journal X.acts
           ≡ Some E = subst (λ l. end_of tools id (each_in_turn (call r e true) buckets u) l
@@ -502,13 +494,13 @@ module _ (tools : List ℕ → ToolInput → ToolAnswer) (id : RunId) (r : Run) 
           let rest = each-steps tools id r k fc (call r e true)
           (call-steps tools id r k fc e true) buckets u X.acts su.is E h2 in
           let tx : InTree X.acts = in-tree-less rest.more X.acts (subst InTree rest.grown tree) in
-          let one = called_if tools id r e t ps (readied (called_place r t bucket) e) in
+          let one = called_if tools id r e t ps (readied (call_context r t bucket) e) in
           let two = then_called tools id r (end_of tools id (call r e true bucket t) t.journal ps)
           (calls_among tools id r e buckets) in
-          let g = call-gave e sc bucket t ps s hs hp X hx u hv tx
+          let g = call-gave e sc bucket t ps s hs X hx u hv tx
           (λ c i. given c (in-left c one two i)) in
-          let f = ih u X.acts su (g.1.scope ∙ hs) (g.1.part
-          ∙ hp) E h2 after ev tree (λ c i. given c (in-right c one two
+          let f = ih u X.acts su (g.1.task_scope ∙ hs) E h2 after ev tree
+          (λ c i. given c (in-right c one two
           (subst (λ o. In c (then_called tools id r o (calls_among tools id r e buckets)))
           (sym hx) (subst (λ v. In c (called_by tools id r v X.acts
           (calls_among tools id r e buckets))) (sym hv) i)))) in
@@ -516,7 +508,7 @@ module _ (tools : List ℕ → ToolInput → ToolAnswer) (id : RunId) (r : Run) 
           (inferred_over e sc buckets) g f
 
   buckets-give : (e : At) (sc : Scope) (buckets : List Bucket) → BucketsGive e sc buckets
-  buckets-give e sc [] = λ t ps s hs hp E he after ev tree given. (
+  buckets-give e sc [] = λ t ps s hs E he after ev tree given. (
     refl,
     subst (λ z. Gave t z []) (ok-same t after (sym (over-is (Ok t) t.journal ps E he) ∙ ev))
         (gave-none t),
@@ -528,8 +520,7 @@ module _ (tools : List ℕ → ToolInput → ToolAnswer) (id : RunId) (r : Run) 
 
   record Aside (z t : State) : Type 0 where
     scope : z.scope ≡ t.scope
-    z_part : z.part ≡ None
-    t_part : t.part ≡ None
+    tasks : z.scope ≡ t.task_scope
     unseen : z.unseen ≡ t.unseen
     items : z.items ≡ t.items
     changes : z.changes ≡ t.changes
@@ -549,14 +540,14 @@ module _ (tools : List ℕ → ToolInput → ToolAnswer) (id : RunId) (r : Run) 
       (E : End (Result State Stopped)) → end_of tools id (called r e true t) t.journal ps ≡ Some E →
       (after : State) → E.value ≡ Ok after → InTree ps → InTree E.acts →
       ((c : Called) → In c (calls_of_task tools id r e t ps
-      (task_buckets (place_in r t (task_scope t)) e)) → ReturnsGiven tools id r c) →
+      (task_buckets (context_in r t t.task_scope) e)) → ReturnsGiven tools id r c) →
       Skipped (inferred r e z) after
   task-aside e z t ps a s E he after ev start tree given =
       subst (λ p. Skipped (taken (inferred_at p e) z) after)
       (sym (place-so z pt (z-stands z a.z_is) z-tree z.scope refl))
       (subst (λ p. Skipped (taken (or_fault_made (task_buckets p e) (inferred_over e z.scope)) z)
-      after) (tasks-so t ps s start z.scope (sym a.scope) a.t_part)
-      (go (task_buckets (place_in r t (task_scope t)) e) he given))
+      after) (tasks-so t ps s start z.scope (sym a.tasks))
+      (go (task_buckets (context_in r t t.task_scope) e) he given))
     where
       go : (x : Result (List Bucket) EvalFault) →
           end_of tools id (unless_stopped (or_stop t x)
@@ -564,18 +555,16 @@ module _ (tools : List ℕ → ToolInput → ToolAnswer) (id : RunId) (r : Run) 
           ((c : Called) → In c (calls_of_task tools id r e t ps x) → ReturnsGiven tools id r c) →
           Skipped (taken (or_fault_made x (inferred_over e z.scope)) z) after
       go (Err fault) h c =
-          let stop : Stopped = faulted (with_notes (Fail (fault_text fault) ∷ []) t) in
+          let stop : Stopped = stop_at fault t in
           absurd (err-ok stop after (sym (over-is (Err stop) t.journal ps E h) ∙ ev))
       go (Ok buckets) h c =
-          let g = buckets-give e z.scope buckets t ps s
-          (sym a.scope) a.t_part E h after ev tree c in
+          let g = buckets-give e z.scope buckets t ps s (sym a.tasks) E h after ev tree c in
           let m : Made = inferred_over e z.scope buckets in (
             with_changes m.changes z,
             ap (λ f. stopped_by f (with_changes m.changes z)) g.0,
             record {
               scope = a.scope ∙ sym g.1.scope;
-              z_part = a.z_part;
-              t_part = g.1.part ∙ a.t_part;
+              tasks = a.tasks ∙ sym g.1.task_scope;
               unseen = ap (λ l. l ++ m.changes) a.unseen ∙ sym g.1.unseen;
               items = a.items ∙ sym g.1.items;
               changes = ap (λ l. l ++ m.changes) a.changes ∙ sym g.1.changed;
@@ -584,35 +573,26 @@ module _ (tools : List ℕ → ToolInput → ToolAnswer) (id : RunId) (r : Run) 
             },
           )
 
-  none-part : (changes : List Change) (part : Option (List ℕ × List Item)) → part ≡ None →
-      part_after_all changes part ≡ None
-  none-part [] part e = e
-  none-part (change ∷ changes) part e = none-part changes (part_after change part)
-      (ap (part_after change) e)
-
   group-aside : (e : At) (z t : State) (ps : List Act) → Aside z t → Stands t.journal ps →
       InTree ps → (after : State) → group r e t ≡ Ok after → Skipped (group r e z) after
   group-aside e z t ps a s start after ev =
-      subst (λ p. Skipped (map_ok (λ changes. with_changes_seen changes z)
-      (or_stop (without_scope z) (group_changes p e))) after)
+      subst (λ p. Skipped (map_ok (λ changes. after_group changes z)
+      (or_stop z (group_changes p e))) after)
       (place-so t ps s start z.scope (sym a.scope)
       ∙ sym (place-so z pt (z-stands z a.z_is) z-tree z.scope refl))
-      (go (group_changes (place_in r t t.scope) e) ev)
+      (go (group_changes (context_in r t t.scope) e) ev)
     where
       go : (x : Result (List Change) EvalFault) →
-          map_ok (λ changes. with_changes_seen changes t) (or_stop (without_scope t) x) ≡ Ok after →
-          Skipped (map_ok (λ changes. with_changes_seen changes z)
-          (or_stop (without_scope z) x)) after
-      go (Err fault) h = absurd (err-ok (faulted (with_notes (Fail (fault_text fault) ∷ [])
-          (without_scope t))) after h)
+          map_ok (λ changes. after_group changes t) (or_stop t x) ≡ Ok after →
+          Skipped (map_ok (λ changes. after_group changes z) (or_stop z x)) after
+      go (Err fault) h = absurd (err-ok (stop_at fault t) after h)
       go (Ok changes) h = (
-        with_changes_seen changes z,
+        after_group changes z,
         refl,
-        subst (Aside (with_changes_seen changes z))
-            (ok-same (with_changes_seen changes t) after h) (record {
+        subst (Aside (after_group changes z))
+            (ok-same (after_group changes t) after h) (record {
               scope = ap (all_applied changes) a.scope;
-              z_part = none-part changes z.part a.z_part;
-              t_part = none-part changes t.part a.t_part;
+              tasks = ap (all_applied changes) a.tasks;
               unseen = a.unseen;
               items = a.items;
               changes = ap (λ l. l ++ changes) a.changes;
@@ -621,36 +601,16 @@ module _ (tools : List ℕ → ToolInput → ToolAnswer) (id : RunId) (r : Run) 
             }),
       )
 
-  fold-aside : (changes : List Change) (z t : State) → Aside z t →
-      Aside (fold with_change z changes) (fold with_change t changes)
-  fold-aside [] z t a = a
-  fold-aside (change ∷ changes) z t a = fold-aside changes (with_change z change)
-      (with_change t change) (record {
-        scope = ap (applied change) a.scope;
-        z_part = ap (part_after change) a.z_part;
-        t_part = ap (part_after change) a.t_part;
-        unseen = a.unseen;
-        items = a.items;
-        changes = a.changes;
-        notes = a.notes;
-        z_is = a.z_is;
-      })
-
   settled-aside : (z t : State) → Aside z t → Aside (settled z) (settled t)
-  settled-aside z t a =
-      subst (λ l. Aside (settled z) (fold with_change (record t { unseen = [] }) l)) a.unseen
-      (fold-aside z.unseen (record z { unseen = [] }) (record t { unseen = [] })
-      (record {
-        scope = a.scope;
-        z_part = a.z_part;
-        t_part = a.t_part;
-        unseen = refl;
-        items =
-            a.items;
-        changes = a.changes;
-        notes = a.notes;
-        z_is = a.z_is;
-      }))
+  settled-aside z t a = record {
+    scope = ap (all_applied z.unseen) a.scope ∙ ap (λ l. all_applied l t.scope) a.unseen;
+    tasks = ap (all_applied z.unseen) a.tasks ∙ ap (λ l. all_applied l t.task_scope) a.unseen;
+    unseen = refl;
+    items = a.items;
+    changes = a.changes;
+    notes = a.notes;
+    z_is = a.z_is;
+  }
 
   -- ---- children
 
@@ -735,8 +695,9 @@ module _ (tools : List ℕ → ToolInput → ToolAnswer) (id : RunId) (r : Run) 
           (sym (over-is (Err stop) X.journal X.acts E h) ∙ ev))
       go X hx (Ok u) hv h =
           let st = child-steps tools id r k fc RunAll e t ps s.is X hx in
-          let ju : u.journal ≡ X.journal = ap (λ v. (state_of v).journal) (sym hv) ∙ st.in_step in
-          let su : Stands u.journal X.acts = subst (λ v. Stands (state_of v).journal X.acts) hv
+          let ju : u.journal ≡ X.journal = ap (λ v. (progress_in v).journal) (sym hv)
+          ∙ st.in_step in
+          let su : Stands u.journal X.acts = subst (λ v. Stands (progress_in v).journal X.acts) hv
           (stands-on s st) in
           let h2 : end_of tools id (each_in_turn (child r RunAll) es u) u.journal X.acts ≡ Some E =
           subst (λ l. end_of tools id (each_in_turn (child r RunAll) es u) l X.acts ≡ Some E)
@@ -768,13 +729,13 @@ module _ (tools : List ℕ → ToolInput → ToolAnswer) (id : RunId) (r : Run) 
 
   -- ---- a piece
 
-  items-so : (bucket : Bucket) (z t : State) → place_in r z z.scope ≡ place_in r t t.scope →
+  items-so : (bucket : Bucket) (z t : State) → context_in r z z.scope ≡ context_in r t t.scope →
       z.items ≡ t.items → (written : Option (List ℕ)) →
       items_if r bucket z written ≡ items_if r bucket t written
   items-so bucket z t p i None = refl
   items-so bucket z t p i (Some written) = ap (λ q.
       returned_items q bucket r.target.element z.items written) p
-      ∙ ap (λ l. returned_items (place_in r t t.scope) bucket r.target.element l written) i
+      ∙ ap (λ l. returned_items (context_in r t t.scope) bucket r.target.element l written) i
 
   -- what is told of the skipped piece
   record Told (y after : State) : Type 0 where
@@ -783,7 +744,7 @@ module _ (tools : List ℕ → ToolInput → ToolAnswer) (id : RunId) (r : Run) 
     notes : (note : Note) → In note y.notes → In note after.notes
 
   returned-aside : (bucket : Bucket) (a b : Decision) (z t : State) → Aside z t →
-      place_in r z z.scope ≡ place_in r t t.scope → (after : State) →
+      context_in r z z.scope ≡ context_in r t t.scope → (after : State) →
       map_ok (with_decision a) (returned r bucket t) ≡ Ok after →
       (y : State) × (map_ok (with_decision b) (returned r bucket z) ≡ Ok y) × Told y after
   returned-aside bucket d b z t a p after h =
@@ -796,8 +757,7 @@ module _ (tools : List ℕ → ToolInput → ToolAnswer) (id : RunId) (r : Run) 
           (map_ok (λ items. with_items items t) (or_stop t x)) ≡ Ok after →
           (y : State) × (map_ok (with_decision b) (map_ok (λ items. with_items items z)
           (or_stop z x)) ≡ Ok y) × Told y after
-      go (Err fault) e = absurd (err-ok (faulted (with_notes (Fail (fault_text fault) ∷ []) t))
-          after e)
+      go (Err fault) e = absurd (err-ok (stop_at fault t) after e)
       go (Ok items) e = (
         with_decision b (with_items items z),
         refl,
@@ -807,13 +767,13 @@ module _ (tools : List ℕ → ToolInput → ToolAnswer) (id : RunId) (r : Run) 
       )
 
   decided-aside : (bucket : Bucket) (items : Option (List ℕ × List Item)) (t : State) →
-      t.part ≡ None → t.journal ≡ first → (E : End (Result State Stopped)) →
+      t.task_scope ≡ t.scope → t.journal ≡ first → (E : End (Result State Stopped)) →
       end_of tools id (decided r bucket RunAll items t) t.journal pt ≡ Some E →
       (after : State) → E.value ≡ Ok after → InTree E.acts →
       ((c : Called) → In c (calls_of tools id r (children_of r.target.element) t pt) →
       ReturnsGiven tools id r c) →
       (y : State) × (decided r bucket Skip items t ≡ done (Ok y)) × Told y after
-  decided-aside bucket items t part is E he after ev tree given =
+  decided-aside bucket items t tasks is E he after ev tree given =
       let x = end-bound tools id (children r RunAll t)
       (λ end. unless_stopped end (λ end. done (map_ok (with_decision (word_of RunAll items))
       (returned r bucket end)))) t.journal pt E he in
@@ -845,21 +805,19 @@ module _ (tools : List ℕ → ToolInput → ToolAnswer) (id : RunId) (r : Run) 
           let start : Stands t.journal pt = z-stands t is in
           let self : Aside t t = record {
             scope = refl;
-            z_part = part;
-            t_part = part;
-            unseen =
-                refl;
+            tasks = sym tasks;
+            unseen = refl;
             items = refl;
             changes = refl;
             notes = λ note i. i;
             z_is = is;
           } in
           let st = children-steps tools id r k fc RunAll t pt start.is X hx in
-          let su : Stands u.journal X.acts = subst (λ v. Stands (state_of v).journal X.acts) hv
+          let su : Stands u.journal X.acts = subst (λ v. Stands (progress_in v).journal X.acts) hv
           (stands-on start st) in
           let g = children-aside (children_of r.target.element) t t pt self start X hx u hv tx given
           in
-          let places : place_in r g.0 g.0.scope ≡ place_in r u u.scope =
+          let places : context_in r g.0 g.0.scope ≡ context_in r u u.scope =
           place-so g.0 pt (z-stands g.0 g.2.z_is) z-tree g.0.scope refl
           ∙ sym (place-so u X.acts su tx g.0.scope (sym g.2.scope)) in
           let f = returned-aside bucket (word_of RunAll items)

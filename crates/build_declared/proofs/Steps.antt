@@ -11,7 +11,6 @@ use Rattle.std.proofs.Common.{
   ◌∷◌,
   ◌++◌,
   length,
-  fold,
   ◌≤◌,
   ◌||◌,
   arith,
@@ -32,18 +31,14 @@ use Rattle.msb_laws.specs.Results.{map_ok}
 use Rattle.msb_values.specs.Keys.{key_of}
 use Rattle.msb_values.specs.declared.change.Change.{Change}
 use Rattle.msb_values.specs.declared.item.Item.{Item}
-use Rattle.msb_values.specs.declared.note.Note.TheVariants.{Fail}
 use Rattle.msb_values.specs.declared.act.Act.{Act}
 use Rattle.msb_elements.specs.Nodes.{name_of}
 use Rattle.msb_expand.specs.Reserved.{folder_of}
 use Rattle.msb_expand.specs.declared.lens.Bucket.{Bucket}
-use Rattle.result_cache.specs.declared.request.RequestKey.{RequestKey}
-use Rattle.result_cache.specs.declared.request.RequestResult.{RequestResult}
 use Rattle.result_cache.specs.declared.run.RunId.{RunId}
 use Rattle.result_cache.specs.declared.record.Decision.{Decision}
 use Rattle.result_cache.specs.Journal.{Journal, add, acted, act_of, has}
 use Rattle.build_world.specs.Elements.{At, children_of}
-use Rattle.build_world.specs.Faults.{fault_text}
 use Rattle.build_world.specs.declared.fault.EvalFault.{EvalFault}
 use Rattle.build_incremental.proofs.Numbered.{numbered, has-above}
 use Rattle.build_incremental.proofs.Entries.{has-append}
@@ -60,9 +55,6 @@ use Rattle.task_trait.specs.declared.tools.ToolAnswer.TheVariants.{Unknown, Made
 use Rattle.task_trait.specs.declared.tools.ToolInput.{ToolInput}
 use Rattle.task_kit.specs.Foreign.{foreign_input, foreign_output}
 use Rattle.task_kit.specs.Tasks.{answer}
-use Rattle.task_msbuild.specs.Plans.{plan_of, has_stopped}
-use Rattle.task_msbuild.specs.Gathered.{gathered}
-use Rattle.task_msbuild.specs.declared.plans.Plan.{Plan}
 use Rattle.target_incremental.specs.declared.decision.Choice.{Choice}
 use Rattle.target_incremental.specs.declared.decision.Choice.TheVariants.{
   Run as RunAll,
@@ -77,52 +69,30 @@ use Rattle.target_texts.specs.Inferred.{task_of, inferred_at}
 use Rattle.target_texts.specs.Parameters.{task_buckets}
 use Rattle.target_texts.specs.OnErrors.{notes_by}
 use Rattle.target_texts.specs.Returned.{returns_of}
-use Rattle.target_body.specs.Work.{
-  Work,
-  done,
-  calls,
-  followed_by,
-  unless_stopped,
-  and_then,
-  each_in_turn,
-}
+use Rattle.target_body.specs.Work.{Work, done, followed_by, unless_stopped, and_then, each_in_turn}
 use Rattle.target_body.specs.States.{
   Run,
   State,
   Stopped,
   faulted,
   failed,
-  with_journal,
   with_act,
   with_notes,
   with_items,
   with_decision,
-  with_change,
   with_changes,
-  with_changes_seen,
-  without_scope,
+  after_group,
+  stop_at,
   settled,
   or_stop,
   stopped_by,
   taken,
-  task_scope,
   view_of,
-  place_in,
-  state_of,
+  context_in,
 }
-use Rattle.target_body.specs.Answers.{
-  all_acted,
-  given,
-  at_once,
-  in_order,
-  made,
-  msbuild,
-  tool,
-  not_built_in,
-  answered_by,
-}
+use Rattle.target_body.specs.Answers.{all_acted, given, msbuild, tool, not_built_in, answered_by}
 use Rattle.target_body.specs.Tasks.{
-  called_place,
+  call_context,
   ended_by,
   outputs_if,
   answered_to,
@@ -134,6 +104,7 @@ use Rattle.target_body.specs.Tasks.{
   inferred,
   then_inferred,
   task,
+  still_failed,
 }
 use Rattle.target_body.specs.Children.{
   group,
@@ -148,12 +119,13 @@ use Rattle.target_body.specs.Children.{
 }
 use Rattle.target_body.specs.Returned.{items_if, returned}
 use Rattle.target_body.specs.Pieces.{treated, on_old, word_of, decided}
+use Rattle.build_declared.proofs.PartEnds.{progress_in}
 use Rattle.build_declared.specs.Ends.{End, end_of}
-use Rattle.build_declared.proofs.Alones.{some-same, end-bound}
+use Rattle.build_declared.proofs.Alones.{some-same, end-bound, msbuild-end, uncalled}
 
 -- the journal of a result's state
 abbrev pub journal_of : Result State Stopped → Journal
-journal_of r = (state_of r).journal
+journal_of r = (progress_in r).journal
 
 taken-journal : (m : Made) (s : State) → journal_of (taken m s) ≡ s.journal
 taken-journal m s = go m.fault
@@ -175,13 +147,12 @@ and-journal : (r : Result State Stopped) (f : State → Result State Stopped) �
 and-journal (Ok t) f g = g t
 and-journal (Err d) f g = refl
 
-fold-journal : (changes : List Change) (s : State) →
-    (fold with_change s changes).journal ≡ s.journal
-fold-journal [] s = refl
-fold-journal (change ∷ changes) s = fold-journal changes (with_change s change)
+still-journal : (r : Result State Stopped) → journal_of (still_failed r) ≡ journal_of r
+still-journal (Ok t) = refl
+still-journal (Err d) = refl
 
 settled-journal : (r : Result State Stopped) → journal_of (map_ok settled r) ≡ journal_of r
-settled-journal (Ok t) = fold-journal t.unseen (record t { unseen = [] })
+settled-journal (Ok t) = refl
 settled-journal (Err d) = refl
 
 module _ (tools : List ℕ → ToolInput → ToolAnswer) (id : RunId) (run : Run) (base : Journal)
@@ -245,8 +216,7 @@ module _ (tools : List ℕ → ToolInput → ToolAnswer) (id : RunId) (run : Run
       Work (Result State Stopped)) → ((y : X) → Steps s (next y)) →
       Steps s (unless_stopped (or_stop s x) next)
   read s (Ok y) next f = f y
-  read s (Err fault) next f = over s (Err (faulted (with_notes (Fail (fault_text fault) ∷ []) s)))
-      refl
+  read s (Err fault) next f = over s (Err (stop_at fault s)) refl
 
   then-next : {l : Journal} {before : List Act} {journal : Journal} {acts : List Act}
       {m last : Journal} {qs : List Act} → Stepped l before journal acts → Stepped m acts last qs →
@@ -323,42 +293,10 @@ module _ (tools : List ℕ → ToolInput → ToolAnswer) (id : RunId) (run : Run
       (all_acted output.acts s) (λ after. (after, output)) (acted-steps output.acts s)
       (λ t. refl)
 
-  abbrev results-journal : State × List RequestResult → Journal
-  results-journal x = x.0.journal
-
-  once-steps : (keys : List RequestKey) (s : State) → StepsBy results-journal s (at_once keys s)
-  once-steps [] s = over-by results-journal s (s, []) refl
-  once-steps (key ∷ keys) s = λ ps n E e. absurd (cc)
-
-  order-steps : (plan : Plan) (answers : List RequestResult) (keys : List RequestKey) (s : State) →
-      StepsBy results-journal s (in_order plan answers keys s)
-  order-steps plan answers [] s = over-by results-journal s (s, answers) refl
-  order-steps plan answers (key ∷ keys) s = go (has_stopped plan answers)
-    where
-      go : (b : Bool) → StepsBy results-journal s (elim b [
-        | true ↦ done (s, answers)
-        | false ↦ calls key [] (λ more journal. in_order plan (answers ++ more) keys
-            (with_journal journal s))
-      ])
-      go true = over-by results-journal s (s, answers) refl
-      go false = λ ps n E e. absurd (cc)
-
-  made-steps : (plan : Plan) (s : State) → StepsBy results-journal s (made plan s)
-  made-steps plan s = go plan.parallel
-    where
-      go : (b : Bool) → StepsBy results-journal s (elim b [
-        | true ↦ at_once plan.calls s
-        | false ↦ in_order plan [] plan.calls s
-      ])
-      go true = once-steps plan.calls s
-      go false = order-steps plan [] plan.calls s
-
   msbuild-steps : (params : List Param) (s : State) → StepsBy first-journal s (msbuild run s params)
-  msbuild-steps params s =
-      let plan : Plan = plan_of run.files (folder_of run.instance.path) run.instance.globals params
-      in
-      then-by results-journal first-journal s (made plan s) (λ x. (x.0, gathered plan x.1))
-      (made-steps plan s) (λ x. refl)
+  msbuild-steps params s = λ ps n E e.
+      over-by first-journal s (s, uncalled run params) refl ps n E
+      (msbuild-end tools id run s params s.journal ps E e)
 
   tool-steps : (name : List ℕ) (s : State) (x : Result ToolInput Failure) →
       StepsBy first-journal s (tool name s x)
@@ -389,10 +327,10 @@ module _ (tools : List ℕ → ToolInput → ToolAnswer) (id : RunId) (run : Run
       (x : State × TaskOutput) → journal_of (answered_to run e gives bucket on_error x)
       ≡ x.0.journal
   answered-journal e gives bucket on_error x =
-      and-journal (taken (outputs_if gives (called_place run x.0 bucket) x.1.outputs e)
+      and-journal (taken (outputs_if gives (call_context run x.0 bucket) x.1.outputs e)
       (with_notes (notes_by on_error x.1.notes) x.0)) (ended_by on_error x.1.ok)
       (ended-journal on_error x.1.ok)
-      ∙ taken-journal (outputs_if gives (called_place run x.0 bucket) x.1.outputs e)
+      ∙ taken-journal (outputs_if gives (call_context run x.0 bucket) x.1.outputs e)
       (with_notes (notes_by on_error x.1.notes) x.0)
 
   with-steps : (e : At) (gives : Bool) (bucket : Bucket) (s : State)
@@ -405,23 +343,23 @@ module _ (tools : List ℕ → ToolInput → ToolAnswer) (id : RunId) (run : Run
 
   pub call-steps : (e : At) (gives : Bool) (bucket : Bucket) (s : State) →
       Steps s (call run e gives bucket s)
-  call-steps e gives bucket s = read s (readied (called_place run s bucket) e)
+  call-steps e gives bucket s = read s (readied (call_context run s bucket) e)
       (called_with run e gives bucket s) (with-steps e gives bucket s)
 
   pub called-steps : (e : At) (gives : Bool) (s : State) → Steps s (called run e gives s)
   called-steps e gives s =
-      read s (task_buckets (place_in run s (task_scope s)) e)
+      read s (task_buckets (context_in run s s.task_scope) e)
       (λ buckets. each_in_turn (call run e gives) buckets s)
       (λ buckets. each-steps (call run e gives) (call-steps e gives) buckets s)
 
   inferred-journal : (e : At) (s : State) → journal_of (inferred run e s) ≡ s.journal
-  inferred-journal e s = taken-journal (inferred_at (place_in run s s.scope) e) s
+  inferred-journal e s = taken-journal (inferred_at (context_in run s s.scope) e) s
 
   then-journal : (e : At) (r : Result State Stopped) →
       journal_of (then_inferred run e r) ≡ journal_of r
   then-journal e (Ok t) = inferred-journal e t
-  then-journal e (Err (failed t)) = inferred-journal e t
-  then-journal e (Err (faulted t)) = refl
+  then-journal e (Err (failed t)) = still-journal (inferred run e t) ∙ inferred-journal e t
+  then-journal e (Err (faulted p)) = refl
 
   task-steps : (choice : Choice) (e : At) (s : State) → Steps s (task run choice e s)
   task-steps RunAll e s = called-steps e true s
@@ -431,11 +369,10 @@ module _ (tools : List ℕ → ToolInput → ToolAnswer) (id : RunId) (run : Run
       (then_inferred run e) (called-steps e false s) (then-journal e)
 
   group-journal : (e : At) (s : State) → journal_of (group run e s) ≡ s.journal
-  group-journal e s = go (group_changes (place_in run s s.scope) e)
+  group-journal e s = go (group_changes (context_in run s s.scope) e)
     where
       go : (x : Result (List Change) EvalFault) →
-          journal_of (map_ok (λ changes. with_changes_seen changes s) (or_stop (without_scope s) x))
-          ≡ s.journal
+          journal_of (map_ok (λ changes. after_group changes s) (or_stop s x)) ≡ s.journal
       go (Ok changes) = refl
       go (Err fault) = refl
 

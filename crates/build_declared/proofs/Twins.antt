@@ -1,12 +1,9 @@
 -- Parts of two runs that do the same step by step, where their journals are alike and all else is
 -- the same.
-use Rattle.std.proofs.Common.{◌≡◌, ℕ, List, [], ◌∷◌, fold, Option, refl, ap, sym, ◌∙◌, subst}
+use Rattle.std.proofs.Common.{◌≡◌, ℕ, List, [], ◌∷◌, Option, refl, ap, ◌∙◌, subst}
 use Rattle.std.specs.Prelude.{Result, Ok, Err}
-use Rattle.msb_values.specs.declared.change.Change.{Change}
 use Rattle.result_cache.specs.declared.request.RequestResult.{RequestResult}
 use Rattle.result_cache.specs.Journal.{Journal}
-use Rattle.build_world.specs.Faults.{fault_text}
-use Rattle.msb_values.specs.declared.note.Note.TheVariants.{Fail}
 use Rattle.build_world.specs.declared.fault.EvalFault.{EvalFault}
 use Rattle.build_meaning.specs.Walk.{Outcome}
 use Rattle.build_incremental.specs.Alike.{AlikeJournals}
@@ -25,16 +22,16 @@ use Rattle.target_body.specs.Work.{
   body_of,
 }
 use Rattle.target_body.specs.States.{
-  with_notes,
   State,
   Stopped,
   faulted,
   failed,
   with_journal,
-  with_change,
   settled,
   or_stop,
   outcome_of,
+  Progress,
+  stop_at,
 }
 
 module _ (files : List ℕ → Option (List ℕ)) (W : List ℕ → Type 0) where
@@ -117,11 +114,16 @@ module _ (files : List ℕ → Option (List ℕ)) (W : List ℕ → Type 0) wher
       ((k : Journal) → AlikeJournals files W s.journal k → P (with_journal k s)) → P t
   by-twin P s t h f = subst P h.same (f t.journal h.alike)
 
+  -- and so where a fault has stopped both
+  pub record TwinFault (p q : Progress) : Type 0 where
+    pub alike : AlikeJournals files W p.journal q.journal
+    pub same : record p { journal = q.journal } ≡ q
+
   abbrev pub TwinStop : Stopped → Stopped → Type 0
-  TwinStop (faulted s) (faulted t) = Twin s t
+  TwinStop (faulted p) (faulted q) = TwinFault p q
   TwinStop (failed s) (failed t) = Twin s t
-  TwinStop (faulted s) (failed t) = ⊥
-  TwinStop (failed s) (faulted t) = ⊥
+  TwinStop (faulted p) (failed t) = ⊥
+  TwinStop (failed s) (faulted q) = ⊥
 
   abbrev pub TwinResult : {X Y : Type 0} → (X → Y → Type 0) → Result X Stopped → Result Y Stopped →
       Type 0
@@ -161,40 +163,21 @@ module _ (files : List ℕ → Option (List ℕ)) (W : List ℕ → Type 0) wher
   pub or-stop-twin : {X : Type 0} (x : Result X EvalFault) (s t : State) → Twin s t →
       TwinResult (λ (a b : X). a ≡ b) (or_stop s x) (or_stop t x)
   or-stop-twin (Ok x) s t h = refl
-  or-stop-twin (Err fault) s t h = by-twin (λ z.
-      TwinStop (faulted (with_notes (Fail (fault_text fault) ∷ []) s))
-      (faulted (with_notes (Fail (fault_text fault) ∷ []) z))) s t h (λ k a. record {
-        alike =
-            a;
-        same = refl;
-      })
+  or-stop-twin (Err fault) s t h = by-twin (λ z. TwinStop (stop_at fault s) (stop_at fault z)) s t h
+      (λ k a. record { alike = a; same = refl })
 
   -- a child is over
-  change-journal : (k : Journal) (changes : List Change) (s : State) →
-      with_journal k (fold with_change s changes) ≡ fold with_change (with_journal k s) changes
-  change-journal k [] s = refl
-  change-journal k (change ∷ changes) s = change-journal k changes (with_change s change)
-
-  fold-journal : (changes : List Change) (s : State) →
-      (fold with_change s changes).journal ≡ s.journal
-  fold-journal [] s = refl
-  fold-journal (change ∷ changes) s = fold-journal changes (with_change s change)
-
   pub settled-twin : (s t : State) → Twin s t → Twin (settled s) (settled t)
   settled-twin s t h = by-twin (λ z. Twin (settled s) (settled z)) s t h (λ k a. record {
-    alike = subst (λ j. AlikeJournals files W j (settled (with_journal k s)).journal)
-        (sym (fold-journal s.unseen (record s { unseen = [] })))
-        (subst (λ j. AlikeJournals files W s.journal j)
-        (sym (fold-journal s.unseen (record (with_journal k s) { unseen = [] }))) a);
-    same = ap (λ j. with_journal j (settled s)) (fold-journal s.unseen (record (with_journal k s)
-        { unseen = [] })) ∙ change-journal k s.unseen (record s { unseen = [] });
+    alike = a;
+    same = refl;
   })
 
   pub outcome-twin : (x y : Result State Stopped) → TwinEnd x y → outcome_of x ≡ outcome_of y
   outcome-twin (Ok s) (Ok t) h = ap (λ z. outcome_of (Ok z)) h.same
   outcome-twin (Ok s) (Err e) h = absurd h
   outcome-twin (Err d) (Ok t) h = absurd h
-  outcome-twin (Err (faulted s)) (Err (faulted t)) h = ap (λ z. outcome_of (Err (faulted z))) h.same
+  outcome-twin (Err (faulted p)) (Err (faulted q)) h = ap (λ z. outcome_of (Err (faulted z))) h.same
   outcome-twin (Err (failed s)) (Err (failed t)) h = ap (λ z. outcome_of (Err (failed z))) h.same
-  outcome-twin (Err (faulted s)) (Err (failed t)) h = absurd h
-  outcome-twin (Err (failed s)) (Err (faulted t)) h = absurd h
+  outcome-twin (Err (faulted p)) (Err (failed t)) h = absurd h
+  outcome-twin (Err (failed s)) (Err (faulted q)) h = absurd h

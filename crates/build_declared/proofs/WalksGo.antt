@@ -45,14 +45,14 @@ use Rattle.task_trait.specs.declared.tools.ToolInput.{ToolInput}
 use Rattle.request_machine.specs.declared.stage.RequestScope.{RequestScope}
 use Rattle.request_machine.specs.Requests.{
   Project,
-  place_of,
-  holds_of,
+  context_at,
   depends_of,
-  target_at,
-  errors_if,
-  errors_by,
   errors_at,
+  errors_by,
+  errors_if,
+  holds_of,
   on_error,
+  target_at,
 }
 use Rattle.request_machine.specs.Walk.{run_of, answer_of, after_run, Site, or_failed, walk}
 use Rattle.build_declared.specs.Written.{bytes_in}
@@ -79,20 +79,21 @@ module _ (p : Project) (key : RequestKey) (W : List ℕ → Type 0) (Q' Q : Site
       Journal → Type 0
   Goes x y j k = AlikeWalks (bytes_in p.files) W Q' Q tools x y j k
 
-  place-same : (scope : Scope) (j k : Journal) → Alike j k → place_of p scope j ≡ place_of p scope k
-  place-same scope j k a = ap (λ ps. item_context ps p.key.path scope)
+  context-same : (scope : Scope) (j k : Journal) → Alike j k →
+      context_at p scope j ≡ context_at p scope k
+  context-same scope j k a = ap (λ ps. item_context ps p.key.path scope)
       ((looks-same p.files W).paths j k a)
 
   holds-same : (scope : Scope) (j k : Journal) → Alike j k → (t : Option UsedTarget) →
       holds_of p scope j t ≡ holds_of p scope k t
   holds-same scope j k a None = refl
   holds-same scope j k a (Some target) = ap (λ q. element_holds q target.element)
-      (place-same scope j k a)
+      (context-same scope j k a)
 
   errors-same : (scope : Scope) (j k : Journal) → Alike j k → (b : Bool) (e : At) →
       errors_by b p scope j e ≡ errors_by b p scope k e
   errors-same scope j k a true e = ap (λ q. and_then (element_holds q e)
-      (λ holds. errors_if holds p scope e)) (place-same scope j k a)
+      (λ holds. errors_if holds p scope e)) (context-same scope j k a)
   errors-same scope j k a false e = refl
 
   on-error-same : (scope : Scope) (j k : Journal) → Alike j k → (t : Option UsedTarget) →

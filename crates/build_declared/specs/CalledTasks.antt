@@ -32,7 +32,7 @@ use Rattle.target_incremental.specs.declared.decision.Choice.TheVariants.{Run as
 use Rattle.target_texts.specs.Outputs.{output_items}
 use Rattle.target_texts.specs.Parameters.{task_buckets}
 use Rattle.target_texts.specs.declared.on_error.OnError.{OnError}
-use Rattle.target_body.specs.States.{Run, State, Stopped, task_scope, place_in}
+use Rattle.target_body.specs.States.{Run, State, Stopped, context_in}
 use Rattle.target_body.specs.Children.{
   Kind,
   group_element,
@@ -41,7 +41,7 @@ use Rattle.target_body.specs.Children.{
   kind_of,
   child,
 }
-use Rattle.target_body.specs.Tasks.{called_place, readied, answered_if, call}
+use Rattle.target_body.specs.Tasks.{call_context, readied, answered_if, call}
 use Rattle.build_declared.specs.Ends.{End, end_of}
 
 -- a task that is called: its element, its parameters and its answer
@@ -79,7 +79,7 @@ module _ (tools : Name → ToolInput → ToolAnswer) (id : RunId) (run : Run) wh
   abbrev pub calls_among : At → List Bucket → State → List Act → List Called
   calls_among e [] s before = []
   calls_among e (bucket ∷ buckets) s before =
-      called_if e s before (readied (called_place run s bucket) e)
+      called_if e s before (readied (call_context run s bucket) e)
       ++ then_called (end_of tools id (call run e true bucket s) s.journal before)
       (calls_among e buckets)
 
@@ -91,7 +91,7 @@ module _ (tools : Name → ToolInput → ToolAnswer) (id : RunId) (run : Run) wh
   calls_of_child group_element e s before = []
   calls_of_child on_error_element e s before = []
   calls_of_child task_element e s before =
-      calls_of_task e s before (task_buckets (place_in run s (task_scope s)) e)
+      calls_of_task e s before (task_buckets (context_in run s s.task_scope) e)
 
   -- the calls of the children in order, where all of them run
   abbrev pub calls_of : List At → State → List Act → List Called

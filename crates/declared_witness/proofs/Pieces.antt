@@ -2,7 +2,7 @@
 -- for it are the reading of texts, the order of targets, and the table by which texts are compared
 -- without case.
 use Rattle.std.proofs.Common.{◌≡◌, ℕ, Bool, List, [], ◌∷◌, None, Option, Some, refl}
-use Rattle.std.specs.Prelude.{Result, Ok, codes}
+use Rattle.std.specs.Prelude.{Result, Ok, Err, codes}
 use Rattle.std.specs.Str.{chars}
 use Rattle.caseless.specs.Caseless.{default_case_fold as fold_case}
 use Rattle.ucd_case.specs.CaseFolding.{full_folding as folding}
@@ -19,7 +19,7 @@ use Rattle.task_trait.specs.declared.tools.ToolAnswer.{ToolAnswer}
 use Rattle.task_trait.specs.declared.tools.ToolInput.{ToolInput}
 use Rattle.target_incremental.specs.declared.decision.Choice.TheVariants.{Run as RunAll, Part}
 use Rattle.target_texts.specs.Lists.{Lists}
-use Rattle.target_body.specs.States.{Run, State, Stopped, begun, entered, state_of, run_at}
+use Rattle.target_body.specs.States.{Run, State, Stopped, begun, entered, run_at}
 use Rattle.build_declared.specs.Declared.{clean_pieces}
 use Rattle.build_declared.specs.Ends.{End}
 use Rattle.build_declared.specs.Pieces.{Piece, ByItems, end_of_piece}
@@ -59,10 +59,14 @@ run_over bytes stamp = run_at (files_with bytes stamp) run target
 pub by-items : ByItems piece sources
 by-items = record { kind = codes "c"; typed = refl; inputs = refl; outputs = refl }
 
--- what an end tells, if there is one
+-- the state at an end, if there is one that is no stop
+abbrev pub state_by : Result State Stopped → State
+state_by (Ok s) = s
+state_by (Err stop) = begins []
+
 abbrev pub state_in : Option (End (Result State Stopped)) → State
 state_in None = begins []
-state_in (Some end) = state_of end.value
+state_in (Some end) = state_by end.value
 
 abbrev pub acts_in : Option (End (Result State Stopped)) → List Act
 acts_in None = []

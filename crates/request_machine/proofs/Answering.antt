@@ -60,7 +60,8 @@ use Rattle.request_machine.specs.declared.order.OrderReply.TheVariants.{Answer, 
 use Rattle.request_machine.specs.Requests.{Project, holds_of, depends_of, target_at}
 use Rattle.request_machine.specs.Walk.{Site, walk, or_failed, faulted, reply_of}
 use Rattle.request_machine.specs.OrderReplies.{reply_by, order_reply_of}
-use Rattle.request_machine.specs.NextStops.{Bodies, StandsNext}
+use Rattle.request_machine.specs.NextStops.{StandsNext}
+use Rattle.request_machine.specs.Worlds.{Bodies}
 
 abbrev W : Type 0
 W = Walk Site ToolInput ToolAnswer
@@ -91,8 +92,8 @@ module _ (p : Project) (key : RequestKey) (s : RequestScope) (journal : Journal)
   order_reply_at ask other failed order_reply is e = subst
       (λ a. order_reply_of p key s journal failed a ≡ order_reply) is e
 
-  abbrev GoesOn : Asking Question OrderAnswer End → OrderAsk → Progress → OrderAnswer → Type 0
-  GoesOn tree ask order answer = (fits (asked_by ask) answer ≡ true)
+  abbrev Advances : Asking Question OrderAnswer End → OrderAsk → Progress → OrderAnswer → Type 0
+  Advances tree ask order answer = (fits (asked_by ask) answer ≡ true)
       × ((bodies : Bodies) → goes bodies tree ≡ goes bodies (left order answer))
 
   no_answer : (end : End) (failed : Bool) (answer : OrderAnswer)
@@ -108,7 +109,7 @@ module _ (p : Project) (key : RequestKey) (s : RequestScope) (journal : Journal)
   pub answer_step : (tree : Asking Question OrderAnswer End) (ask : OrderAsk) (order : Progress)
       (answer : OrderAnswer)
       → Asks tree ask order → order_reply_of p key s journal order.failed ask ≡ Answer answer
-      → GoesOn tree ask order answer
+      → Advances tree ask order answer
   answer_step (ends end) ask order answer is e = absurd
       (no_answer end order.failed answer
       (order_reply_at ask (told end) order.failed (Answer answer) is.0 e))

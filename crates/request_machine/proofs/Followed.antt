@@ -27,7 +27,8 @@ use Rattle.result_cache.specs.Journal.{Journal}
 use Rattle.result_cache.specs.declared.record.Record.{Record}
 use Rattle.result_cache.specs.declared.request.RequestKey.{RequestKey}
 use Rattle.request_machine.specs.Requests.{Project, on_error, target_at}
-use Rattle.request_machine.specs.NextStops.{Bodies, StandsNext}
+use Rattle.request_machine.specs.NextStops.{StandsNext}
+use Rattle.request_machine.specs.Worlds.{Bodies}
 use Rattle.request_machine.specs.Walk.{walk, after_run, after_target, answer_of, or_failed, faulted}
 use Rattle.request_machine.specs.Stages.{IsReady, left_by}
 use Rattle.request_machine.specs.OrderSteps.{FitsBody, FollowsReply}

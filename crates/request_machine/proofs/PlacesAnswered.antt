@@ -68,11 +68,11 @@ use Rattle.target_body.specs.Standings.{
   waits,
   over,
   standing_in,
-  target_named,
   tool_use,
 }
+use Rattle.target_body.specs.States.{target_named}
 use Rattle.target_body.specs.declared.body.Body.{Body}
-use Rattle.request_machine.specs.Answered.{GoesOn, HasMade, HasRecord, IsRecord, WaitsFor, WantsRun}
+use Rattle.request_machine.specs.Answered.{Advances, HasMade, HasRecord, IsRecord, WaitsFor, WantsRun}
 use Rattle.request_machine.specs.Asks.{AsksAt, asked_by}
 use Rattle.request_machine.specs.Stages.{
   StandsAt,
@@ -84,7 +84,7 @@ use Rattle.request_machine.specs.Stages.{
   left_by,
 }
 use Rattle.request_machine.specs.OrderSteps.{Follows}
-use Rattle.request_machine.specs.RunStops.{GoesOnFrom, IsWaiting, Steps, ask_in}
+use Rattle.request_machine.specs.RunStops.{Resumes, IsWaiting, Stops, ask_in}
 use Rattle.request_machine.specs.Positions.{
   Halt,
   halt_at,
@@ -190,10 +190,10 @@ module _ {T : Type 0} (answer : List ℕ → ToolInput → ToolAnswer)
 
     -- it has made the run that it wanted
     pub made_goes : v.at ≡ Wanted
-        → Steps answer calls w v.run its_target
+        → Stops answer calls w v.run its_target
         (body_if w v.run its_target v.state.scope journal) nothing_yet journal next old new run_stop
         →
-        GoesOn W table (position_of calls w key journal runs (Visits v))
+        Advances W table (position_of calls w key journal runs (Visits v))
         (position_of calls w key next runs (Visits n)) Go run_stop.ask
     made_goes wanted steps = record {
       goes_on =
@@ -210,7 +210,7 @@ module _ {T : Type 0} (answer : List ℕ → ToolInput → ToolAnswer)
     }
 
     pub made_used : v.at ≡ Wanted
-        → Steps answer calls w v.run its_target
+        → Stops answer calls w v.run its_target
         (body_if w v.run its_target v.state.scope journal) nothing_yet journal next old new run_stop
         →
         map tool_use (calls new) ≡ map tool_use (calls old)
@@ -233,7 +233,7 @@ module _ {T : Type 0} (answer : List ℕ → ToolInput → ToolAnswer)
           (go : List RequestResult → Journal → Tree ToolInput ToolAnswer)
           (is : halt_at calls w v.run its_target v.at ≡ Some (s, asks k ks go))
           (as_many : length results ≡ length (k ∷ ks))
-          (steps : Steps answer calls w v.run its_target (go results mid)
+          (steps : Stops answer calls w v.run its_target (go results mid)
           (with_calls s (k ∷ ks) results) mid next old new run_stop) where
         results_position : answered W table (position_of calls w key journal runs (Visits v))
             (Results results) ≡ Some (position_of calls w key next runs (Visits n))
@@ -274,8 +274,8 @@ module _ {T : Type 0} (answer : List ℕ → ToolInput → ToolAnswer)
 
       pub results_go : (halt : Option Halt) → halt_at calls w v.run its_target v.at ≡ halt
           → IsWaiting halt results
-          → GoesOnFrom answer calls w v.run its_target halt results mid next old new run_stop →
-          GoesOn W table (position_of calls w key journal runs (Visits v))
+          → Resumes answer calls w v.run its_target halt results mid next old new run_stop →
+          Advances W table (position_of calls w key journal runs (Visits v))
           (position_of calls w key next runs (Visits n)) (Results results) run_stop.ask
       results_go None is waiting goes = absurd waiting
       results_go (Some (s, ends outcome)) is waiting goes = absurd waiting
@@ -287,7 +287,7 @@ module _ {T : Type 0} (answer : List ℕ → ToolInput → ToolAnswer)
 
       pub results_used : (halt : Option Halt) → halt_at calls w v.run its_target v.at ≡ halt
           → IsWaiting halt results
-          → GoesOnFrom answer calls w v.run its_target halt results mid next old new run_stop →
+          → Resumes answer calls w v.run its_target halt results mid next old new run_stop →
           map tool_use (calls new) ≡ map tool_use (calls old)
           ++ used_between (place_of calls w key journal (Visits v))
           (place_of calls w key next (Visits n))
@@ -336,7 +336,7 @@ module _ {T : Type 0} (answer : List ℕ → ToolInput → ToolAnswer)
         → IsRecord table v.run journal next v.at made → ask ≡ asked_by key.instance all_runs
         f.next_stop
         →
-        GoesOn W table (position_of calls w key journal runs (Visits v))
+        Advances W table (position_of calls w key journal runs (Visits v))
         (position_of calls w key next all_runs stage) Use ask
     record_goes ask has is asks_so = record {
       goes_on = record_position v.at has is;
@@ -500,7 +500,7 @@ module _ {T : Type 0} (answer : List ℕ → ToolInput → ToolAnswer)
     begun_place = not_begun old unbegun ∙ sym (stands.stands calls)
 
     pub first_goes : (ask : Ask) → AsksAt runs new ask
-        → GoesOn V table (position_of calls w key journal runs old)
+        → Advances V table (position_of calls w key journal runs old)
         (position_of calls w key journal runs new) First ask
     first_goes ask told = record {
       goes_on = first_stays (place_of calls w key journal old)

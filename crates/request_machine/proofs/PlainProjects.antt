@@ -61,6 +61,7 @@ use Rattle.request_machine.specs.Plain.{
 use Rattle.request_machine.specs.Requests.{
   Project,
   all_targets,
+  context_at,
   depends_of,
   errors_at,
   errors_by,
@@ -69,7 +70,6 @@ use Rattle.request_machine.specs.Requests.{
   holds_at,
   holds_of,
   on_error,
-  place_of,
   target_at,
 }
 use Rattle.request_machine.specs.Walk.{
@@ -109,8 +109,8 @@ module _ (p : Project) (scope : Scope) (j k : Journal) where
   elements-alike : (e : At) → element_asks e.node ≡ false →
       holds_at p scope j e ≡ holds_at p scope k e
   elements-alike e none =
-      ap (or_fault e) (conditions_see_files_by_exists (view_in (place_of p scope j) e.file)
-      (view_in (place_of p scope k) e.file) (attribute_of (codes "Condition") e) none refl)
+      ap (or_fault e) (conditions_see_files_by_exists (view_in (context_at p scope j) e.file)
+      (view_in (context_at p scope k) e.file) (attribute_of (codes "Condition") e) none refl)
 
   targets-alike : (o : Option UsedTarget) → IfSome o (λ t. target_asks t ≡ false) →
       holds_of p scope j o ≡ holds_of p scope k o

@@ -48,7 +48,7 @@ use Rattle.target_body.specs.Standings.{
 use Rattle.target_body.specs.declared.body.Body.{Body}
 use Rattle.target_body.specs.declared.body.BodyAsk.{BodyAsk}
 use Rattle.target_body.specs.declared.body.BodyAsk.TheVariants.{Call, Finished}
-use Rattle.request_machine.specs.RunStops.{GoesOnFrom, IsFinished, IsStep, IsWaiting, Plays, Steps}
+use Rattle.request_machine.specs.RunStops.{Resumes, IsFinished, IsRunStop, IsWaiting, Plays, Stops}
 use Rattle.request_machine.specs.Positions.{halt_at, halt_by, halt_of, uses_between, uses_in}
 use Rattle.request_machine.specs.Runs.{run_in}
 use Rattle.request_machine.specs.Worlds.{body_if, nothing_made}
@@ -60,7 +60,7 @@ Uses T = Snapshots (Snapshots T ℕ) (Snapshots T ℕ)
 
 -- where the body of a run has stopped, it is the body of that run
 pub step_run : {T : Type 0} (run : RunId) (body : Body) (noted : Uses T) (ask : BodyAsk)
-    (run_stop : RunStop T) → body.run ≡ run → IsStep run body noted ask run_stop → run_in run
+    (run_stop : RunStop T) → body.run ≡ run → IsRunStop run body noted ask run_stop → run_in run
     run_stop.at ≡ run
 step_run run body noted (Call keys) run_stop own is = ap (run_in run) is.0 ∙ own
 step_run run body noted (Finished made) run_stop own is = ap (run_in run) is.0
@@ -82,13 +82,13 @@ module _ {T : Type 0} (answer : List ℕ → ToolInput → ToolAnswer)
       → IfSome target
       (λ t. Plays answer calls w run t (standing_in w run t body) results before after old new
       noted run_stop)
-      → Steps answer calls w run target (body_if w run target scope before) nothing_yet before
+      → Stops answer calls w run target (body_if w run target scope before) nothing_yet before
       after old new run_stop
   begins_steps None scope body noted results before after old new run_stop empty at is plays =
       absurd (cc)
   begins_steps (Some t) scope body noted results before after old new run_stop empty at is plays =
       subst
-      (λ us. Steps answer calls w run (Some t) (body_in w run t scope before)
+      (λ us. Stops answer calls w run (Some t) (body_in w run t scope before)
       (record { segments = []; tools = map tool_use us }) before after old new run_stop)
       (none_used noted empty)
       (subst (λ st. Plays answer calls w run t st results before after old new noted run_stop)
@@ -106,10 +106,10 @@ module _ {T : Type 0} (answer : List ℕ → ToolInput → ToolAnswer)
   pub nothing_steps : (target : Option UsedTarget) (scope : Scope) (noted : Uses T)
       (journal : Journal) (tools : T) (run_stop : RunStop T) → target ≡ None → noted.items ≡ []
       → IsFinished run noted (recorded nothing_made []) run_stop
-      → Steps answer calls w run target (body_if w run target scope journal) nothing_yet journal
+      → Stops answer calls w run target (body_if w run target scope journal) nothing_yet journal
       journal tools tools run_stop
   nothing_steps target scope noted journal tools run_stop none empty is = subst
-      (λ t. Steps answer calls w run t (body_if w run t scope journal) nothing_yet journal journal
+      (λ t. Stops answer calls w run t (body_if w run t scope journal) nothing_yet journal journal
       tools tools run_stop) (sym none) (record {
         uses = [];
         called = sym (append-nil (calls tools));
@@ -146,7 +146,7 @@ module _ {T : Type 0} (answer : List ℕ → ToolInput → ToolAnswer)
   plays_at : (t : UsedTarget) (st : Standing) (noted : Uses T) (results : List RequestResult)
       (before after : Journal) (old new : T) (run_stop : RunStop T)
       → Plays answer calls w run t st results before after old new noted run_stop
-      → GoesOnFrom answer calls w run (Some t) (halt_by (uses_in calls noted) st) results before
+      → Resumes answer calls w run (Some t) (halt_by (uses_in calls noted) st) results before
       after
       old new run_stop
   plays_at t (begins scope) noted results before after old new run_stop plays = tt
@@ -158,7 +158,7 @@ module _ {T : Type 0} (answer : List ℕ → ToolInput → ToolAnswer)
       → IfSome target
       (λ t. Plays answer calls w run t (standing_in w run t body) results before after old new
       noted run_stop)
-      → GoesOnFrom answer calls w run target (halt_of w run body (uses_in calls noted) target)
+      → Resumes answer calls w run target (halt_of w run body (uses_in calls noted) target)
       results
       before after old new run_stop
   plays_on None body noted results before after old new run_stop plays = tt

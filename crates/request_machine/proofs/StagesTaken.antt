@@ -11,7 +11,7 @@ use Rattle.task_trait.specs.declared.tools.ToolInput.{ToolInput}
 use Rattle.build_meaning.specs.Walk.{Reply}
 use Rattle.build_scheduler.specs.Position.{used_between}
 use Rattle.build_scheduler.specs.declared.walker.Answer.TheVariants.{Use}
-use Rattle.request_machine.specs.Answered.{GoesOn, HasMade}
+use Rattle.request_machine.specs.Answered.{Advances, HasMade}
 use Rattle.request_machine.specs.Asks.{asked_by}
 use Rattle.request_machine.specs.Stages.{IsReady, has_begun, instance_in, left_by}
 use Rattle.request_machine.specs.Positions.{place_of, position_of}
@@ -67,12 +67,12 @@ module _ {T : Type 0} (w : Given) (key : RequestKey) (table : Records) (journal 
     pub after_goes : (old new : Stage T) (a : AfterRun) → instance_in key.instance old ≡
         key.instance → HasMade table journal old → IsAfter w key table journal runs old a
         → TakenOn old a.step new →
-        GoesOn (world_of answer w) table (position_of calls w key journal runs old)
+        Advances (world_of answer w) table (position_of calls w key journal runs old)
         (position_of calls w key a.journal a.runs new) Use a.ask
     after_goes Begins new a own has is taken = absurd has
     after_goes (Visits v) new a own has is taken =
         subst
-        (λ rs. GoesOn (world_of answer w) table
+        (λ rs. Advances (world_of answer w) table
         (position_of calls w key journal runs (Visits v))
         (position_of calls w key a.journal rs new) Use a.ask) (sym is.runs_are)
         (record_goes answer calls w key v own table journal a.journal runs is.made a.step new

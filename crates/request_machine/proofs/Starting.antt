@@ -13,7 +13,6 @@ use Rattle.std.proofs.Common.{
   Result,
   Ok,
   Err,
-  codes,
   refl,
   sym,
   ap,
@@ -27,6 +26,7 @@ use Rattle.target_order.specs.declared.visits.Asked.TheVariants.{Body as ForBody
 use Rattle.target_order.specs.Progress.{Progress}
 use Rattle.target_order.specs.Visit.{Question, End}
 use Rattle.target_order.specs.declared.asks.OrderAnswer.{OrderAnswer}
+use Rattle.build_world.specs.Faults.{not_found_text}
 use Rattle.build_world.specs.Instances.{Instance, seen_instance}
 use Rattle.build_world.specs.declared.instance.Instance.{Instance as Made}
 use Rattle.build_world.specs.declared.fault.EvalFault.{EvalFault}
@@ -40,7 +40,7 @@ use Rattle.task_trait.specs.declared.tools.ToolInput.{ToolInput}
 use Rattle.build_meaning.specs.State.{walking}
 use Rattle.build_meaning.specs.Walk.{Walk, Reply, gives}
 use Rattle.request_machine.specs.Requests.{Project, unevaluated}
-use Rattle.request_machine.specs.NextStops.{Bodies, StandsNext}
+use Rattle.request_machine.specs.NextStops.{StandsNext}
 use Rattle.request_machine.specs.Walk.{Site, walk}
 use Rattle.request_machine.specs.Worlds.{
   bodies_of,
@@ -49,6 +49,7 @@ use Rattle.request_machine.specs.Worlds.{
   project_of,
   request_by,
   walk_of,
+  Bodies,
 }
 use Rattle.request_machine.specs.Positions.{place_at, place_of}
 use Rattle.request_machine.specs.Stages.{
@@ -100,7 +101,7 @@ walk_if w key journal file = walk_by w key journal (instance_if w.tree.files key
 
 pub no_file : (w : Given) (key : RequestKey) (journal : Journal)
     → file_at key.instance.path w.tree.files ≡ None
-    → walk_of w key journal ≡ gives (unevaluated (key.instance.path ++ codes ": not found"))
+    → walk_of w key journal ≡ gives (unevaluated (not_found_text key.instance.path))
 no_file w key journal none = ap (walk_if w key journal) none
 
 pub at_file : (w : Given) (key : RequestKey) (journal : Journal) (file : File)

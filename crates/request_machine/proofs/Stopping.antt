@@ -52,7 +52,7 @@ use Rattle.task_trait.specs.Tools.{BeginsWith}
 use Rattle.target_body.specs.declared.body.Body.{Body}
 use Rattle.target_body.specs.declared.body.BodyAsk.{BodyAsk}
 use Rattle.request_machine.specs.Positions.{Halt, halt_at, halt_by, calls_at, uses_in, uses_between}
-use Rattle.request_machine.specs.RunStops.{IsStep, Plays, Steps, ask_in}
+use Rattle.request_machine.specs.RunStops.{IsRunStop, Plays, Stops, ask_in}
 use Rattle.request_machine.specs.declared.snapshots.Snapshots.{Snapshots}
 use Rattle.request_machine.specs.declared.run.RunStop.{RunStop}
 
@@ -91,8 +91,8 @@ module _ {T : Type 0} (answer : List ℕ → ToolInput → ToolAnswer)
       (standing_in w run target body)
       → ((uses : List (List ℕ × ToolInput)) → calls new ≡ calls old ++ uses
       → uses_in calls then_noted ≡ uses_in calls noted ++ uses)
-      → IsStep run body then_noted ask run_stop
-      → Steps answer calls w run (Some target) b
+      → IsRunStop run body then_noted ask run_stop
+      → Stops answer calls w run (Some target) b
       (record { segments = segments; tools = map tool_use (uses_in calls noted) }) before after
       old new run_stop
   step_stops b segments before after old new noted then_noted body ask run_stop a grown is =
@@ -123,14 +123,14 @@ module _ {T : Type 0} (answer : List ℕ → ToolInput → ToolAnswer)
           → (halt_at calls w run (Some target) run_stop.at ≡ Some (so_far, stop))
           × (run_stop.ask ≡ ask_in run so_far stop)
       stopped_by (ends outcome) told =
-          let e = subst (λ x. IsStep run body then_noted x run_stop) told.0 is in (
+          let e = subst (λ x. IsRunStop run body then_noted x run_stop) told.0 is in (
             ap (halt_at calls w run (Some target)) e.0
                 ∙ ap (λ us. Some (record { segments = a.written; tools = us }, ends outcome))
                 tools_are,
             e.1,
           )
       stopped_by (asks key keys go) told =
-          let e = subst (λ x. IsStep run body then_noted x run_stop) told.0 is in (
+          let e = subst (λ x. IsRunStop run body then_noted x run_stop) told.0 is in (
             ap (halt_at calls w run (Some target)) e.0
                 ∙ (ap (halt_by (uses_in calls then_noted)) told.1
                 ∙ ap (λ us. Some (record { segments = a.written; tools = us }, asks key keys go))
@@ -144,7 +144,7 @@ module _ {T : Type 0} (answer : List ℕ → ToolInput → ToolAnswer)
       (run_stop : RunStop T)
       (grown : (uses : List (List ℕ × ToolInput)) → calls new ≡ calls old ++ uses
       → uses_in calls then_noted ≡ uses_in calls noted ++ uses)
-      (is : IsStep run then_body then_noted ask run_stop) where
+      (is : IsRunStop run then_body then_noted ask run_stop) where
     pub goes_plays : (st : Standing)
         → Goes answer run (body_in w run target) st results before after (calls old) (calls new) ask
         (standing_in w run target then_body) →
@@ -166,7 +166,7 @@ pub all_play : {T : Type 0} (answer : List ℕ → ToolInput → ToolAnswer)
     (found : Option UsedTarget) →
     ((uses : List (List ℕ × ToolInput)) → calls new ≡ calls old ++ uses
     → uses_in calls then_noted ≡ uses_in calls noted ++ uses)
-    → IsStep run then_body then_noted ask run_stop →
+    → IsRunStop run then_body then_noted ask run_stop →
     IfSome found
     (λ target. Goes answer run (body_in w run target) (standing_in w run target body) results
     before after (calls old) (calls new) ask (standing_in w run target then_body)) →

@@ -1,4 +1,5 @@
 -- The stage of a request after the run of a target. (Target build order)
+-- Contracts of private functions alone name this: what requests mean is told without it.
 use Rattle.std.specs.Prelude.{◌≡◌, List, [], ◌∷◌, ◌++◌}
 use Rattle.build_world.specs.Instances.{seen_instance}
 use Rattle.build_world.specs.declared.world.World.{World as Given}

@@ -1,4 +1,5 @@
 -- What a request holds where an answer takes it on. (Target build order; MSBuild task)
+-- Contracts of private functions alone name this: what requests mean is told without it.
 use Rattle.std.specs.Prelude.{◌≡◌, List, Bool, true, false, IsSome, Some}
 use Rattle.msb_laws.specs.Words.{Name}
 use Rattle.build_world.specs.Instances.{seen_instance}
@@ -16,7 +17,7 @@ use Rattle.build_scheduler.specs.Position.{Position, answered, ask_of}
 use Rattle.build_scheduler.specs.declared.walker.Answer.{Answer}
 use Rattle.build_scheduler.specs.declared.walker.Answer.TheVariants.{First}
 use Rattle.build_scheduler.specs.declared.walker.Ask.{Ask}
-use Rattle.target_body.specs.Standings.{target_named}
+use Rattle.target_body.specs.States.{target_named}
 use Rattle.request_machine.specs.Stages.{is_wanted}
 use Rattle.request_machine.specs.RunStops.{IsWaiting}
 use Rattle.request_machine.specs.Positions.{halt_at}
@@ -67,7 +68,7 @@ IsRecord table run before after (Made own noted) made = (made ≡ own)
     × (after ≡ add before (ended run own))
 
 -- an answer takes a request from one position to the next, where it asks this
-pub record GoesOn (w : World Site ToolInput ToolAnswer) (table : Records)
+pub record Advances (w : World Site ToolInput ToolAnswer) (table : Records)
     (before after : Position Site ToolInput ToolAnswer) (answer : Answer) (ask : Ask)
     : Type 0 where
   pub goes_on : answered w table before answer ≡ Some after

@@ -1,4 +1,5 @@
 -- What a request asks that wants a run or is over. (Target build order)
+-- Contracts of private functions alone name this: what requests mean is told without it.
 use Rattle.std.specs.Prelude.{◌≡◌, List}
 use Rattle.msb_laws.specs.Words.{Name}
 use Rattle.build_meaning.specs.SoFar.{result_of}

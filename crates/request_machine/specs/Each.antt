@@ -1,4 +1,5 @@
 -- What the targets of some names have returned, name by name. (MSBuild task, TargetOutputs)
+-- Contracts of private functions alone name this: what requests mean is told without it.
 use Rattle.std.specs.Prelude.{List, [], Bool, true, false}
 use Rattle.msb_laws.specs.Words.{Name}
 use Rattle.result_cache.specs.declared.request.Returned.{Returned}

@@ -1,4 +1,5 @@
 -- A list in layers.
+-- Contracts of private functions alone name this: what requests mean is told without it.
 use Rattle.std.specs.Prelude.{List, [], ◌∷◌, ◌++◌}
 
 -- the entries of all layers

@@ -1,8 +1,7 @@
 -- Where a request stands when the order has been answered so far. (Target build order)
+-- Contracts of private functions alone name this: what requests mean is told without it.
 use Rattle.std.specs.Prelude.{◌≡◌}
 use Rattle.msb_laws.specs.Asking.{Asking, asks}
-use Rattle.msb_laws.specs.Words.{Name}
-use Rattle.msb_values.specs.declared.scope.Scope.{Scope}
 use Rattle.target_order.specs.declared.asks.OrderAnswer.{OrderAnswer}
 use Rattle.target_order.specs.declared.visits.Asked.TheVariants.{Body as ForBody}
 use Rattle.target_order.specs.Left.{left}
@@ -10,18 +9,13 @@ use Rattle.target_order.specs.Progress.{Progress}
 use Rattle.target_order.specs.Visit.{Question, body, End}
 use Rattle.result_cache.specs.Journal.{Journal}
 use Rattle.result_cache.specs.declared.request.RequestKey.{RequestKey}
-use Rattle.task_trait.specs.declared.tools.ToolAnswer.{ToolAnswer}
-use Rattle.task_trait.specs.declared.tools.ToolInput.{ToolInput}
-use Rattle.build_meaning.specs.Walk.{Walk, gives, Body}
+use Rattle.build_meaning.specs.Walk.{gives}
 use Rattle.request_machine.specs.declared.stage.RequestScope.{RequestScope}
 use Rattle.request_machine.specs.declared.order.NextStop.{NextStop}
 use Rattle.request_machine.specs.declared.order.NextStop.TheVariants.{Wants, Over}
 use Rattle.request_machine.specs.Requests.{Project}
 use Rattle.request_machine.specs.Walk.{walk}
-
--- what the runs of targets do, by scope and journal
-abbrev pub Bodies : Type 0
-Bodies = Name → Scope → Journal → Body ToolInput ToolAnswer
+use Rattle.request_machine.specs.Worlds.{Bodies}
 
 -- the tree of the request is one that wants the run of this target and goes on with the order, or
 -- one that is over

@@ -1,7 +1,9 @@
 -- What comes of an ask of the order: it is answered, or the request wants a run or is over. (Target
 -- build order)
-use Rattle.std.specs.Prelude.{Bool, true, false, Some, None, Result, Ok, Err}
+-- Contracts of private functions alone name this: what requests mean is told without it.
+use Rattle.std.specs.Prelude.{Bool, true, false, Result, Ok, Err}
 use Rattle.msb_laws.specs.Results.{map_ok}
+use Rattle.target_order.specs.Visit.{End, finished, stopped, circle, unknown}
 use Rattle.target_order.specs.declared.asks.OrderAsk.{OrderAsk}
 use Rattle.target_order.specs.declared.asks.OrderAsk.TheVariants.{
   Condition,
@@ -14,22 +16,14 @@ use Rattle.target_order.specs.declared.asks.OrderAsk.TheVariants.{
 use Rattle.target_order.specs.declared.asks.OrderAnswer.{OrderAnswer}
 use Rattle.target_order.specs.declared.asks.OrderAnswer.TheVariants.{Truth, Names}
 use Rattle.build_world.specs.declared.fault.EvalFault.{EvalFault}
-use Rattle.build_meaning.specs.Walk.{Reply}
 use Rattle.result_cache.specs.Journal.{Journal}
 use Rattle.result_cache.specs.declared.request.RequestKey.{RequestKey}
 use Rattle.request_machine.specs.declared.stage.RequestScope.{RequestScope}
 use Rattle.request_machine.specs.declared.order.NextStop.TheVariants.{Wants, Over}
 use Rattle.request_machine.specs.declared.order.OrderReply.{OrderReply}
 use Rattle.request_machine.specs.declared.order.OrderReply.TheVariants.{Answer, Stop}
-use Rattle.request_machine.specs.Requests.{
-  Project,
-  holds_of,
-  depends_of,
-  target_at,
-  succeeded,
-  failed,
-}
-use Rattle.request_machine.specs.Walk.{circle_text, unknown_text, faulted}
+use Rattle.request_machine.specs.Requests.{Project, holds_of, depends_of, target_at}
+use Rattle.request_machine.specs.Walk.{faulted, reply_of}
 
 -- an answer of the project, or the end of the request
 abbrev pub reply_by : Result OrderAnswer EvalFault → OrderReply
@@ -37,9 +31,9 @@ reply_by (Ok answer) = Answer answer
 reply_by (Err fault) = Stop (Over (faulted fault))
 
 -- every target was visited, or the OnError targets of a failed one were
-abbrev pub end_reply : Bool → Project → RequestKey → RequestScope → Reply
-end_reply true p key s = failed None
-end_reply false p key s = succeeded p.instance key s.returned
+abbrev pub end_by : (has_failed : Bool) → End
+end_by true = stopped
+end_by false = finished
 
 abbrev pub order_reply_of : Project → RequestKey → RequestScope → Journal → Bool → OrderAsk →
     OrderReply
@@ -48,8 +42,9 @@ order_reply_of p key s journal has_failed (Condition name) = reply_by
 order_reply_of p key s journal has_failed (Depends name) = reply_by
     (map_ok Names (depends_of p s.scope (target_at p name)))
 order_reply_of p key s journal has_failed (Body name) = Stop (Wants name)
-order_reply_of p key s journal has_failed Done = Stop (Over (end_reply has_failed p key s))
+order_reply_of p key s journal has_failed Done = Stop
+    (Over (reply_of p key (end_by has_failed) s))
 order_reply_of p key s journal has_failed (Circle names) = Stop
-    (Over (failed (Some (circle_text names))))
+    (Over (reply_of p key (circle names) s))
 order_reply_of p key s journal has_failed (Unknown name) = Stop
-    (Over (failed (Some (unknown_text name))))
+    (Over (reply_of p key (unknown name) s))

@@ -1,4 +1,5 @@
 -- How a request goes on after the run of a target. (Target build order; OnError element)
+-- Contracts of private functions alone name this: what requests mean is told without it.
 use Rattle.std.specs.Prelude.{◌≡◌, true}
 use Rattle.msb_laws.specs.Words.{Name}
 use Rattle.target_order.specs.Answers.{fits}
@@ -9,7 +10,8 @@ use Rattle.result_cache.specs.Journal.{Journal}
 use Rattle.result_cache.specs.declared.record.Record.{Record}
 use Rattle.result_cache.specs.declared.request.RequestKey.{RequestKey}
 use Rattle.request_machine.specs.Requests.{Project}
-use Rattle.request_machine.specs.NextStops.{Bodies, StandsNext}
+use Rattle.request_machine.specs.NextStops.{StandsNext}
+use Rattle.request_machine.specs.Worlds.{Bodies}
 use Rattle.request_machine.specs.Walk.{walk, after_run, after_target}
 use Rattle.request_machine.specs.Stages.{IsReady, left_by}
 use Rattle.request_machine.specs.declared.after_run.OrderStep.{OrderStep}

@@ -1,4 +1,5 @@
 -- Runs that were replayed before, and the journal that they have given. (MSBuild task)
+-- Contracts of private functions alone name this: what requests mean is told without it.
 use Rattle.std.specs.Prelude.{◌≡◌, Some}
 use Rattle.result_cache.specs.Journal.{Journal}
 use Rattle.result_cache.specs.Replay.{replay_all}

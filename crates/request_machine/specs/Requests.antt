@@ -40,7 +40,7 @@ use Rattle.result_cache.specs.declared.request.RequestKey.{RequestKey}
 use Rattle.result_cache.specs.declared.request.Returned.{Returned}
 use Rattle.msb_files.specs.Views.{paths}
 use Rattle.build_meaning.specs.Walk.{Reply}
-use Rattle.target_body.specs.Standings.{target_named}
+use Rattle.target_body.specs.States.{target_named}
 
 -- the files of a build, and an instance of a project as it was evaluated
 pub record Project : Type 0 where
@@ -50,13 +50,13 @@ pub record Project : Type 0 where
 
 -- what the texts of its targets see at a moment: the scope then, and the files as the request's
 -- journal has them
-abbrev pub place_of : Project → Scope → Journal → ElementContext
-place_of p scope journal = item_context (paths (record { files = p.files; journal = journal }))
+abbrev pub context_at : Project → Scope → Journal → ElementContext
+context_at p scope journal = item_context (paths (record { files = p.files; journal = journal }))
     p.key.path scope
 
 -- whether the Condition of an element holds
 abbrev pub holds_at : Project → Scope → Journal → At → Result Bool EvalFault
-holds_at p scope journal e = element_holds (place_of p scope journal) e
+holds_at p scope journal e = element_holds (context_at p scope journal) e
 
 -- the targets that a list of an element names
 abbrev pub names_at : Project → Scope → Name → At → Result (List Name) EvalFault

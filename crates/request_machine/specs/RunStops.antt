@@ -1,4 +1,5 @@
 -- One step of the body of a run that a request makes. (Target element; MSBuild task)
+-- Contracts of private functions alone name this: what requests mean is told without it.
 use Rattle.std.specs.Prelude.{◌≡◌, ℕ, List, [], ◌∷◌, ◌++◌, length, map, Option, Some, None}
 use Rattle.msb_laws.specs.Words.{Name}
 use Rattle.build_world.specs.Instances.{UsedTarget}
@@ -39,11 +40,11 @@ IsFinished run noted made run_stop = (run_stop.at ≡ Made made noted) ×
     (run_stop.ask ≡ AskFinished run made)
 
 -- what the code makes of what the body asks
-abbrev pub IsStep : {T : Type 0} → RunId → Body → Snapshots (Snapshots T ℕ) (Snapshots T ℕ) →
+abbrev pub IsRunStop : {T : Type 0} → RunId → Body → Snapshots (Snapshots T ℕ) (Snapshots T ℕ) →
     BodyAsk → RunStop T → Type 0
-IsStep run body noted (Call keys) run_stop = (run_stop.at ≡ Called body noted) ×
+IsRunStop run body noted (Call keys) run_stop = (run_stop.at ≡ Called body noted) ×
     (run_stop.ask ≡ AskCall keys)
-IsStep run body noted (Finished made) run_stop = IsFinished run noted made run_stop
+IsRunStop run body noted (Finished made) run_stop = IsFinished run noted made run_stop
 
 -- whether the body has called requests, and these are as many results
 abbrev pub IsStopped : Stop ToolInput ToolAnswer → List RequestResult → Type 0
@@ -60,7 +61,7 @@ module _ {T : Type 0} (answer : Name → ToolInput → ToolAnswer)
     -- A body goes on from here, with what it has done to files, called and used, and stops where
     -- the definition says. The second tools have been called as the first ones were, and then as
     -- the body says.
-    pub record Steps (b : Tree ToolInput ToolAnswer) (so_far : SoFar ToolInput)
+    pub record Stops (b : Tree ToolInput ToolAnswer) (so_far : SoFar ToolInput)
         (before after : Journal) (old new : T) (run_stop : RunStop T) : Type 0 where
       pub uses : List (Name × ToolInput)
       pub called : calls new ≡ calls old ++ uses
@@ -72,16 +73,16 @@ module _ {T : Type 0} (answer : Name → ToolInput → ToolAnswer)
       pub asks_so : run_stop.ask ≡ ask_in run stopped.so_far stopped.stop
 
     -- by the results of its calls it goes on from where it has stopped
-    abbrev pub GoesOnAt : SoFar ToolInput → Stop ToolInput ToolAnswer → List RequestResult
+    abbrev pub ResumesAt : SoFar ToolInput → Stop ToolInput ToolAnswer → List RequestResult
         → (before after : Journal) → (old new : T) → RunStop T → Type 0
-    GoesOnAt so_far (ends outcome) results before after old new run_stop = Unit {0}
-    GoesOnAt so_far (asks key keys go) results before after old new run_stop = Steps
+    ResumesAt so_far (ends outcome) results before after old new run_stop = Unit {0}
+    ResumesAt so_far (asks key keys go) results before after old new run_stop = Stops
         (go results before) (with_calls so_far (key ∷ keys) results) before after old new run_stop
 
-    abbrev pub GoesOnFrom : Option Halt → List RequestResult → (before after : Journal)
+    abbrev pub Resumes : Option Halt → List RequestResult → (before after : Journal)
         → (old new : T) → RunStop T → Type 0
-    GoesOnFrom None results before after old new run_stop = Unit {0}
-    GoesOnFrom (Some halt) results before after old new run_stop = GoesOnAt halt.0 halt.1 results
+    Resumes None results before after old new run_stop = Unit {0}
+    Resumes (Some halt) results before after old new run_stop = ResumesAt halt.0 halt.1 results
         before after old new run_stop
 
 module _ {T : Type 0} (answer : Name → ToolInput → ToolAnswer)
@@ -90,11 +91,11 @@ module _ {T : Type 0} (answer : Name → ToolInput → ToolAnswer)
   abbrev pub Plays : Standing → List RequestResult → (before after : Journal) → (old new : T)
       → Snapshots (Snapshots T ℕ) (Snapshots T ℕ) → RunStop T → Type 0
   Plays (begins scope) results before after old new noted run_stop =
-      Steps answer calls w run (Some target) (body_in w run target scope before)
+      Stops answer calls w run (Some target) (body_in w run target scope before)
       (record { segments = []; tools = map tool_use (uses_in calls noted) }) before after old new
       run_stop
   Plays (waits segments key keys go) results before after old new noted run_stop =
-      Steps answer calls w run (Some target) (go results before)
+      Stops answer calls w run (Some target) (go results before)
       (record {
         segments = segments ++ called (key ∷ keys) results;
         tools = map tool_use

@@ -1,4 +1,5 @@
 -- The project that the code holds. (How MSBuild builds projects, execution phase)
+-- Contracts of private functions alone name this: what requests mean is told without it.
 use Rattle.build_world.specs.Instances.{seen_instance}
 use Rattle.request_machine.specs.Requests.{Project}
 use Rattle.request_machine.specs.declared.context.Project.{Project as HeldProject}

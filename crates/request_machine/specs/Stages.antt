@@ -16,9 +16,8 @@ use Rattle.task_trait.specs.declared.tools.ToolInput.{ToolInput}
 use Rattle.build_meaning.specs.State.{walking}
 use Rattle.build_meaning.specs.Walk.{Walk, gives}
 use Rattle.request_machine.specs.Requests.{Project, failed}
-use Rattle.request_machine.specs.NextStops.{Bodies}
 use Rattle.request_machine.specs.Walk.{Site, walk}
-use Rattle.request_machine.specs.Worlds.{bodies_of, project_of}
+use Rattle.request_machine.specs.Worlds.{bodies_of, project_of, Bodies}
 use Rattle.request_machine.specs.Positions.{place_of}
 use Rattle.request_machine.specs.declared.stage.RequestScope.{RequestScope}
 use Rattle.request_machine.specs.declared.order.NextStop.{NextStop}

@@ -1,4 +1,5 @@
 -- Where the body of the run that a request makes has stopped. (Target element; MSBuild task)
+-- Contracts of private functions alone name this: what requests mean is told without it.
 use Rattle.std.specs.Prelude.{◌≡◌, List, Some}
 use Rattle.msb_laws.specs.Words.{Name}
 use Rattle.build_world.specs.Instances.{UsedTarget, seen_instance}
@@ -10,8 +11,8 @@ use Rattle.result_cache.specs.declared.request.RequestResult.{RequestResult}
 use Rattle.task_trait.specs.declared.tools.ToolAnswer.{ToolAnswer}
 use Rattle.task_trait.specs.declared.tools.ToolInput.{ToolInput}
 use Rattle.build_meaning.specs.SoFar.{nothing_yet, runs_of}
-use Rattle.target_body.specs.Standings.{target_named}
-use Rattle.request_machine.specs.RunStops.{GoesOnFrom, Steps}
+use Rattle.target_body.specs.States.{target_named}
+use Rattle.request_machine.specs.RunStops.{Resumes, Stops}
 use Rattle.request_machine.specs.Positions.{halt_at}
 use Rattle.request_machine.specs.Runs.{run_in}
 use Rattle.request_machine.specs.Worlds.{body_if}
@@ -26,7 +27,7 @@ module _ {T : Type 0} (answer : Name → ToolInput → ToolAnswer)
   pub record HasMadeRun (v : Visit T) (before after : Journal) (old new : T) (run_stop : RunStop T)
       : Type 0 where
     pub steps : let target = target_named (seen_instance v.instance).targets v.run.target in
-        Steps answer calls w v.run target (body_if w v.run target v.state.scope before)
+        Stops answer calls w v.run target (body_if w v.run target v.state.scope before)
         nothing_yet before after old new run_stop
     pub own : run_in v.run run_stop.at ≡ v.run
 
@@ -41,7 +42,7 @@ module _ {T : Type 0} (answer : Name → ToolInput → ToolAnswer)
     pub replayed : Journal
     pub is : replay_all table (runs_of results) before ≡ Some replayed
     pub goes : let target = target_named (seen_instance v.instance).targets v.run.target in
-        GoesOnFrom answer calls w v.run target (halt_at calls w v.run target v.at) results replayed
+        Resumes answer calls w v.run target (halt_at calls w v.run target v.at) results replayed
         after old new run_stop
     pub own : run_in v.run run_stop.at ≡ v.run
 

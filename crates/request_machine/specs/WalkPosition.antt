@@ -5,6 +5,7 @@ use Rattle.task_trait.specs.declared.tools.ToolAnswer.{ToolAnswer}
 use Rattle.task_trait.specs.declared.tools.ToolInput.{ToolInput}
 use Rattle.build_meaning.specs.SoFar.{ToolUse}
 use Rattle.build_meaning.specs.World.{World}
+use Rattle.build_scheduler.specs.Own.{Seen}
 use Rattle.build_scheduler.specs.Position.{Position}
 use Rattle.target_body.specs.Standings.{tool_use}
 use Rattle.request_machine.specs.Former.{position_before}
@@ -36,3 +37,13 @@ module _ {T : Type 0} (calls : T → List (Name × ToolInput)) where
 abbrev pub walk_world : {T : Type 0} → (Name → ToolInput → ToolAnswer) → Walk T →
     World Site ToolInput ToolAnswer
 walk_world answer w = world_of answer w.request.world.now
+
+-- what contracts see of a walk, by what its tools answer and how they were called
+abbrev pub walk_seen : {T : Type 0} → (Name → ToolInput → ToolAnswer)
+    → (T → List (Name × ToolInput)) → Walk T → Seen Site ToolInput ToolAnswer
+walk_seen answer calls w = record {
+  world = walk_world answer w;
+  position = walk_position calls w;
+  asked = w.asked;
+  learnt = w.learnt.finished;
+}

@@ -4,7 +4,6 @@ use Rattle.std.specs.Prelude.{
   List,
   [],
   ◌∷◌,
-  ◌++◌,
   Bool,
   true,
   false,
@@ -14,14 +13,13 @@ use Rattle.std.specs.Prelude.{
   Result,
   Ok,
   Err,
-  codes,
 }
 use Rattle.msb_laws.specs.Words.{Name}
 use Rattle.msb_values.specs.declared.mode.Mode.{Mode}
 use Rattle.msb_values.specs.declared.scope.Scope.{Scope}
 use Rattle.file_store.specs.Files.{file_at}
 use Rattle.file_store.specs.declared.tree.File.{File}
-use Rattle.build_world.specs.Faults.{fault_text}
+use Rattle.build_world.specs.Faults.{fault_text, not_found_text}
 use Rattle.build_world.specs.Instances.{Instance, UsedTarget}
 use Rattle.build_world.specs.declared.fault.EvalFault.{EvalFault}
 use Rattle.build_world.specs.declared.world.World.{World as Given}
@@ -36,7 +34,6 @@ use Rattle.build_meaning.specs.World.{World}
 use Rattle.target_body.specs.Bodies.{body}
 use Rattle.target_body.specs.States.{run_at}
 use Rattle.request_machine.specs.Requests.{Project, target_at, unevaluated}
-use Rattle.request_machine.specs.NextStops.{Bodies}
 use Rattle.request_machine.specs.Walk.{Site, run_of, walk_in}
 
 -- nothing is made of a target that the project has not; the order asks for none
@@ -51,6 +48,10 @@ body_at files mode id (Some target) scope journal = body mode (run_at files id t
 
 abbrev pub body_if : Given → RunId → Option UsedTarget → Scope → Journal → Body ToolInput ToolAnswer
 body_if w = body_at w.tree.files w.mode
+
+-- what the runs of targets do, by scope and journal
+abbrev pub Bodies : Type 0
+Bodies = Name → Scope → Journal → Body ToolInput ToolAnswer
 
 -- what the runs of a project's targets do
 abbrev pub bodies_at : List File → Mode → Project → Bodies
@@ -70,7 +71,7 @@ instance_by (Err fault) = Err (unevaluated (fault_text fault))
 
 -- a project that is not among the files is not evaluated
 abbrev pub instance_if : List File → RequestKey → Option File → Result Instance Reply
-instance_if files key None = Err (unevaluated (key.instance.path ++ codes ": not found"))
+instance_if files key None = Err (unevaluated (not_found_text key.instance.path))
 instance_if files key (Some file) = instance_by (evaluated files key.instance)
 
 abbrev pub instances_of : List File → RequestKey → Result Instance Reply

@@ -1,6 +1,6 @@
-ghost use Rattle.std.specs.Prelude.{◌≡◌, ◌≢◌, ◌++◌, IfOk, Some, codes, not, true};
+ghost use Rattle.std.specs.Prelude.{◌≡◌, ◌≢◌, IfOk, Some, codes, not, true};
 ghost use Rattle.msb_values.specs.declared.cause.Cause.TheVariants.{Memory};
-ghost use Rattle.build_world.specs.Faults.{fault_text};
+ghost use Rattle.build_world.specs.Faults.{fault_text, not_found_text};
 ghost use Rattle.build_world.specs.Instances.{seen_instance};
 ghost use Rattle.msb_instance.specs.Kept.{AreEvaluated};
 ghost use Rattle.request_machine.specs.Requests.{failed, has_no_targets, unevaluated};
@@ -18,7 +18,7 @@ use crate::plain::project_asks;
 use crate::reply::{Reply, all_targets};
 use crate::shared::SharedList;
 use crate::stage::{RequestScope, RunState, Stage, Visit};
-use build_world::{EvalFault, Instance, World};
+use build_world::{EvalFault, Instance, World, not_found_text};
 use msb_files::Journal;
 use msb_instance::{InstanceRef, Instances};
 use msb_values::{Cause, Copied, NoMemory, Text};
@@ -61,19 +61,19 @@ pub fn begin<T>(
 }
 
 fn reply_not_found<T>(alloc: Global, path: &str) -> Result<Beginning<T>, NoMemory>
-    ensures told { IfOk result
-        (λ beginning. beginning.stage ≡ Over (unevaluated (path.now ++ codes ": not found"))) }
+    ensures reply { IfOk result
+        (λ beginning. beginning.stage ≡ Over (unevaluated (not_found_text path.now))) }
     ensures plain { IfOk result (λ beginning. beginning.plain ≡ true) }
 {
-    let text = Text::from(format!(in alloc; "{path}: not found")?);
+    let text = not_found_text(alloc, path)?;
     Ok(Beginning {
-        stage: Stage::Over(Reply::unevaluated(alloc, text)),
+        stage: Stage::Over(Reply::of_fault(alloc, text)),
         plain: true,
     })
 }
 
 fn reply_refused<T>(alloc: Global, fault: &EvalFault) -> Result<Beginning<T>, NoMemory>
-    ensures told { IfOk result
+    ensures reply { IfOk result
         (λ beginning. beginning.stage ≡ Over (unevaluated (fault_text fault.now))) }
     ensures plain { IfOk result (λ beginning. beginning.plain ≡ true) }
     ensures cause { IfOk result (λ _. fault.now.cause ≢ Memory) }
@@ -81,9 +81,9 @@ fn reply_refused<T>(alloc: Global, fault: &EvalFault) -> Result<Beginning<T>, No
     if let Cause::Memory = fault.cause {
         return Err(NoMemory);
     }
-    let text = fault.shown(alloc)?;
+    let text = fault.to_text(alloc)?;
     Ok(Beginning {
-        stage: Stage::Over(Reply::unevaluated(alloc, text)),
+        stage: Stage::Over(Reply::of_fault(alloc, text)),
         plain: true,
     })
 }
@@ -146,7 +146,7 @@ fn reply_no_targets<T>(alloc: Global) -> Result<Stage<T>, NoMemory>
     ensures { IfOk result (λ stage. stage ≡ Over (failed (Some (codes "no targets")))) }
 {
     let text = Text::of(alloc, "no targets")?;
-    Ok(Stage::Over(Reply::failed(alloc, Some(text))))
+    Ok(Stage::Over(Reply::failure(alloc, Some(text))))
 }
 
 // Whether nothing is named, and the project has no target.

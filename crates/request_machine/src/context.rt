@@ -6,7 +6,6 @@ ghost use Rattle.request_machine.specs.Requests.{
   names_at,
   holds_of,
   depends_of,
-  place_of,
   errors_at,
   errors_of,
   on_error,
@@ -154,9 +153,7 @@ impl<'a> RequestContext<'a> {
         let mut names = List::new(alloc);
         for element in elements {
             let more = self.errors(alloc, &PlacedElement { file, element })?;
-            if add_all(&mut names, more.as_slice()).is_err() {
-                return Err(EvalFault::memory(alloc));
-            }
+            add_all(&mut names, more.as_slice())?;
         }
         Ok(names)
     }

@@ -12,8 +12,8 @@ ghost use Rattle.request_machine.specs.Requests.{
   succeeded,
   target_at,
 };
-ghost use Rattle.request_machine.specs.OrderReplies.{reply_by, end_reply, order_reply_of};
-ghost use Rattle.request_machine.specs.Walk.{answer_of};
+ghost use Rattle.request_machine.specs.OrderReplies.{end_by, order_reply_of, reply_by};
+ghost use Rattle.request_machine.specs.Walk.{answer_of, reply_of};
 ghost use Rattle.request_machine.specs.Seen.{seen_project};
 ghost use Rattle.target_order.specs.Answers.{Fits};
 ghost use Rattle.target_order.specs.Left.{left};
@@ -116,11 +116,11 @@ impl<'a> RequestContext<'a> {
     // How a request ends whose targets were all visited, or whose target has failed.
     fn end(&self, alloc: Global, has_failed: bool) -> Result<Reply, NoMemory>
         ensures { IfOk result (λ reply. reply
-            ≡ end_reply has_failed (seen_project self.now.project) self.now.key.now
+            ≡ reply_of (seen_project self.now.project) self.now.key.now (end_by has_failed)
             self.now.state.now) }
     {
         if has_failed {
-            return Ok(Reply::failed(alloc, None));
+            return Ok(Reply::failure(alloc, None));
         }
         self.success(alloc)
     }
@@ -134,8 +134,8 @@ fn reply_fault(alloc: Global, fault: &EvalFault) -> Result<OrderReply, NoMemory>
     if let Cause::Memory = fault.cause {
         return Err(NoMemory);
     }
-    let text = fault.shown(alloc)?;
-    Ok(OrderReply::Stop(NextStop::Over(Reply::failed(alloc, Some(text)))))
+    let text = fault.to_text(alloc)?;
+    Ok(OrderReply::Stop(NextStop::Over(Reply::failure(alloc, Some(text)))))
 }
 
 impl<'a> RequestContext<'a> {
@@ -155,7 +155,7 @@ impl<'a> RequestContext<'a> {
         let mut answer = first;
         loop {
             let ask = order.advance(alloc, &answer)?;
-            match self.reply_to(alloc, &ask, order.failed())? {
+            match self.reply_to(alloc, &ask, order.has_failed())? {
                 OrderReply::Answer(next) => answer = next,
                 OrderReply::Stop(next_stop) => return Ok(next_stop),
             }

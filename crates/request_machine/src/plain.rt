@@ -134,7 +134,7 @@ fn text_asks(alloc: Global, written: &str) -> Result<bool, NoMemory>
 }
 
 fn ask_nothing(fault: &CondFault) -> Result<bool, NoMemory>
-    ensures told { IfOk result (λ asks. asks ≡ false) }
+    ensures asks { IfOk result (λ asks. asks ≡ false) }
     ensures cause { IfOk result (λ _. fault.now ≢ Memory) }
 {
     if let CondFault::Memory = fault {

@@ -58,7 +58,7 @@ impl Model for Reply {
 
 impl Reply {
     /// A request that failed, with its error text.
-    pub fn failed(alloc: Global, error: Option<Text>) -> Reply
+    pub fn failure(alloc: Global, error: Option<Text>) -> Reply
         ensures { result ≡ failed error }
     {
         Reply {
@@ -70,7 +70,7 @@ impl Reply {
     }
 
     /// A request whose project has this fault, and was not evaluated.
-    pub fn unevaluated(alloc: Global, fault: Text) -> Reply
+    pub fn of_fault(alloc: Global, fault: Text) -> Reply
         ensures { result ≡ unevaluated fault }
     {
         Reply {
@@ -86,7 +86,7 @@ impl Reply {
         ensures { IfOk result (λ r. r ≡ failed (Some (circle_text names.now))) }
     {
         let text = circle_text(alloc, names.as_slice())?;
-        Ok(Reply::failed(alloc, Some(text)))
+        Ok(Reply::failure(alloc, Some(text)))
     }
 
     /// A request that wants a target which the project has not. (Target build order.)
@@ -95,7 +95,7 @@ impl Reply {
     {
         let name = name.key();
         let text = Text::from(format!(in alloc; "unknown target {name}")?);
-        Ok(Reply::failed(alloc, Some(text)))
+        Ok(Reply::failure(alloc, Some(text)))
     }
 
     /// An equal reply.

@@ -74,7 +74,7 @@ struct StoppedBody<T> {
 }
 
 // The entries behind the first ones of this number.
-fn behind(runs: &[RunRef], count: usize) -> &[RunRef]
+fn runs_behind(runs: &[RunRef], count: usize) -> &[RunRef]
     ensures { result.now ≡ drop count runs.now }
 {
     match runs.get(count..) {
@@ -117,14 +117,14 @@ impl<'a, T> Request<'a, T> {
     }
 
     /// A request that is over as this one is, with the same journal.
-    pub fn ended(&self) -> Result<Request<'a, T>, NoMemory>
+    pub fn copy_end(&self) -> Result<Request<'a, T>, NoMemory>
         ensures world { IfOk result (λ ended. ended.world.now ≡ self.now.world.now) }
         ensures key { IfOk result (λ ended. ended.key ≡ self.now.key) }
         ensures journal { IfOk result (λ ended. ended.journal ≡ self.now.journal) }
         ensures runs { IfOk result (λ ended. ended.runs ≡ self.now.runs) }
         ensures stage { IfOk result (λ ended. ended.stage ≡ ended_stage self.now.stage) }
     {
-        let stage = self.stage.ended(self.alloc)?;
+        let stage = self.stage.copy_end(self.alloc)?;
         Ok(Request {
             alloc: self.alloc,
             world: self.world,
@@ -138,7 +138,7 @@ impl<'a, T> Request<'a, T> {
 
     /// A request that is over as that one is, from where this one stands: it has replayed the
     /// records of the runs that are left to it.
-    pub fn ended_as(&self, end: &Request<'a, T>, table: &Table) -> Result<Request<'a, T>, NoMemory>
+    pub fn end_as(&self, end: &Request<'a, T>, table: &Table) -> Result<Request<'a, T>, NoMemory>
         requires replays { IsSome (replay_all table.now.finished
             (drop (length self.now.runs) end.now.runs) self.now.journal) }
         ensures world { IfOk result (λ ended. ended.world.now ≡ self.now.world.now) }
@@ -150,9 +150,9 @@ impl<'a, T> Request<'a, T> {
     {
         let runs = end.runs.to_list(self.alloc)?;
         let mut journal = self.journal.copy()?;
-        let left = behind(runs.as_slice(), self.runs.len());
+        let left = runs_behind(runs.as_slice(), self.runs.len());
         journal.replay_all(self.alloc, table, left)?;
-        let stage = end.stage.ended(self.alloc)?;
+        let stage = end.stage.copy_end(self.alloc)?;
         Ok(Request {
             alloc: self.alloc,
             world: self.world,
@@ -295,13 +295,14 @@ impl<'a, T: CountedTools + 'a> Request<'a, T> {
     ghost use Rattle.result_cache.specs.Table.{Records};
     ghost use Rattle.build_world.specs.Instances.{seen_instance};
     ghost use Rattle.msb_instance.specs.Kept.{AreEvaluated};
-    ghost use Rattle.target_body.specs.Standings.{target_named, tool_use};
+    ghost use Rattle.target_body.specs.Standings.{tool_use};
+    ghost use Rattle.target_body.specs.States.{target_named};
     ghost use Rattle.task_trait.specs.Tools.{BeginsWith};
-    ghost use Rattle.request_machine.specs.Answered.{GoesOn, HasMade, IsNext, WaitsFor, WantsRun};
+    ghost use Rattle.request_machine.specs.Answered.{Advances, HasMade, IsNext, WaitsFor, WantsRun};
     ghost use Rattle.request_machine.specs.Stages.{has_begun};
     ghost use Rattle.request_machine.specs.Former.{Replaces};
     ghost use Rattle.request_machine.specs.StoppedBodies.{HasMadeRun, IsMade, IsResumed};
-    ghost use Rattle.request_machine.specs.RunStops.{GoesOnFrom, IsWaiting};
+    ghost use Rattle.request_machine.specs.RunStops.{Resumes, IsWaiting};
     ghost use Rattle.request_machine.specs.Positions.{halt_at};
     ghost use Rattle.request_machine.specs.Replayed.{IsReplayed};
     ghost use Rattle.request_machine.specs.Runs.{run_in};
@@ -330,7 +331,7 @@ impl<'a, T: CountedTools + 'a> Request<'a, T> {
         ensures place { Suits T.answer site.new.world.now site.new.instances
             (world_of T.answer self.old.world.now) }
         ensures goes { IfOk result
-            (λ advanced. GoesOn (world_of T.answer self.old.world.now) learnt.now.finished
+            (λ advanced. Advances (world_of T.answer self.old.world.now) learnt.now.finished
             (request_position T.calls self.old) (request_position T.calls self.new) answer.now
             advanced.ask) }
         ensures lent { site.new.tools.ghost_name ≡ site.old.tools.ghost_name }
@@ -369,7 +370,7 @@ impl<'a, T: CountedTools + 'a> Request<'a, T> {
         ensures kept { AreEvaluated world.entry.now.tree.files instances.new }
         ensures goes { (table : Records)
             → IfOk result
-            (λ advanced. GoesOn (world_of T.answer self.old.world.now) table
+            (λ advanced. Advances (world_of T.answer self.old.world.now) table
             (request_position T.calls self.old) (request_position T.calls self.new) First
             advanced.ask) }
         ensures used { OnOk result
@@ -397,7 +398,7 @@ impl<'a, T: CountedTools + 'a> Request<'a, T> {
         requires { WantsRun self.old.stage }
         ensures goes { (table : Records)
             → IfOk result
-            (λ advanced. GoesOn (world_of T.answer self.old.world.now) table
+            (λ advanced. Advances (world_of T.answer self.old.world.now) table
             (request_position T.calls self.old) (request_position T.calls self.new) Go
             advanced.ask) }
         ensures used { OnOk result (map tool_use (T.calls tools.new)
@@ -460,7 +461,7 @@ impl<'a, T: CountedTools + 'a> Request<'a, T> {
         requires known { ∥ IfSome replayed.now
             (IsReplayed learnt.now.finished self.old.journal) ∥₁ }
         ensures goes { IfOk result
-            (λ advanced. GoesOn (world_of T.answer self.old.world.now) learnt.now.finished
+            (λ advanced. Advances (world_of T.answer self.old.world.now) learnt.now.finished
             (request_position T.calls self.old) (request_position T.calls self.new)
             (Results results.now) advanced.ask) }
         ensures used { OnOk result (map tool_use (T.calls tools.new)
@@ -524,7 +525,7 @@ impl<'a, T: CountedTools + 'a> Request<'a, T> {
         ensures goes { IfOk result (λ stopped.
             let target = target_named (seen_instance visit.now.instance).targets
             visit.now.run.target in
-            GoesOnFrom T.answer T.calls self.now.world.now visit.now.run target
+            Resumes T.answer T.calls self.now.world.now visit.now.run target
             (halt_at T.calls self.now.world.now visit.now.run target visit.now.at) results.now
             journal
             stopped.journal tools.old tools.new stopped.run_stop) }
@@ -542,7 +543,7 @@ impl<'a, T: CountedTools + 'a> Request<'a, T> {
     fn use_record(&mut self, learnt: &Table) -> Result<Advanced<T>, NoMemory>
         requires { HasMade learnt.now.finished self.old.journal self.old.stage }
         ensures goes { IfOk result
-            (λ advanced. GoesOn (world_of T.answer self.old.world.now) learnt.now.finished
+            (λ advanced. Advances (world_of T.answer self.old.world.now) learnt.now.finished
             (request_position T.calls self.old) (request_position T.calls self.new) Use
             advanced.ask) }
         ensures used { OnOk result

@@ -2,13 +2,14 @@ ghost use Rattle.std.specs.Prelude.{◌≡◌, [], ◌∷◌, IfOk, IfSome, IsSo
 ghost use Rattle.build_meaning.specs.SoFar.{nothing_yet, recorded};
 ghost use Rattle.build_world.specs.Instances.{seen_instance};
 ghost use Rattle.task_trait.specs.Tools.{BeginsWith};
-ghost use Rattle.target_body.specs.Standings.{Fits, standing_in, target_named};
+ghost use Rattle.target_body.specs.Standings.{Fits, standing_in};
+ghost use Rattle.target_body.specs.States.{target_named};
 ghost use Rattle.request_machine.specs.RunStops.{
   IsFinished,
-  IsStep,
+  IsRunStop,
   Plays,
-  Steps,
-  GoesOnFrom,
+  Stops,
+  Resumes,
   IsWaiting,
 };
 ghost use Rattle.request_machine.specs.Runs.{run_in};
@@ -34,6 +35,7 @@ use task_trait::CountedTools;
 /// A run of a target of an evaluated project, which a request makes.
 #[derive(Clone, Copy)]
 pub struct RunMaker<'a> {
+    pub alloc: Global,
     pub world: &'a World,
     pub instance: &'a InstanceRef,
     pub run: &'a RunRef,
@@ -51,7 +53,6 @@ impl<'a> RunMaker<'a> {
     /// element.)
     pub fn begin<T: CountedTools>(
         &self,
-        alloc: Global,
         tools: &mut T,
         scope: &Scope,
         journal: &mut Journal,
@@ -61,23 +62,22 @@ impl<'a> RunMaker<'a> {
         ensures goes { IfOk result
             (let target = target_named (seen_instance self.now.instance.now).targets
             self.now.run.now.target in
-            Steps T.answer T.calls self.now.world.now self.now.run.now target
+            Stops T.answer T.calls self.now.world.now self.now.run.now target
             (body_if self.now.world.now self.now.run.now target scope.now journal.old) nothing_yet
             journal.old journal.new tools.old tools.new) }
         ensures tools { BeginsWith (T.calls tools.old) (T.calls tools.new) }
         ensures run { IfOk result
             (λ run_stop. run_in self.now.run.now run_stop.at ≡ self.now.run.now) }
     {
-        let body = Body::start(alloc, self.run, scope)?;
-        let none = List::new(alloc);
-        self.advance(alloc, tools, body, &Snapshots::new(), journal, &none)
+        let body = Body::start(self.alloc, self.run, scope)?;
+        let none = List::new(self.alloc);
+        self.advance(tools, body, &Snapshots::new(), journal, &none)
     }
 
     /// The body goes on by the results that have come, until it calls requests or is over. (Target
     /// element; MSBuild task.)
     pub fn advance<T: CountedTools>(
         &self,
-        alloc: Global,
         tools: &mut T,
         body: Body,
         uses: &Uses<T>,
@@ -106,38 +106,27 @@ impl<'a> RunMaker<'a> {
         let mut body = body;
         let before = note(tools);
         let instance = self.instance.get();
-        let ask = body.advance(alloc, self.world, tools, instance, journal, results)?;
+        let ask = body.advance(self.world, tools, instance, journal, results)?;
         let uses = uses.and(&before, &note(tools));
-        self.stop(alloc, body, uses, ask)
+        self.stop(body, uses, ask)
     }
 
-    fn stop<T>(
-        &self,
-        alloc: Global,
-        body: Body,
-        uses: Uses<T>,
-        ask: BodyAsk,
-    ) -> Result<RunStop<T>, NoMemory>
-        ensures { IfOk result (IsStep self.now.run.now body uses ask) }
+    fn stop<T>(&self, body: Body, uses: Uses<T>, ask: BodyAsk) -> Result<RunStop<T>, NoMemory>
+        ensures { IfOk result (IsRunStop self.now.run.now body uses ask) }
     {
         match ask {
             BodyAsk::Call(keys) => Ok(RunStop {
-                at: RunState::Called(HeldBody::of(alloc, body)?, uses),
+                at: RunState::Called(HeldBody::of(self.alloc, body)?, uses),
                 ask: Ask::Call(keys),
             }),
-            BodyAsk::Finished(run_record) => self.finish(alloc, uses, run_record),
+            BodyAsk::Finished(run_record) => self.finish(uses, run_record),
         }
     }
 
-    fn finish<T>(
-        &self,
-        alloc: Global,
-        uses: Uses<T>,
-        run_record: Record,
-    ) -> Result<RunStop<T>, NoMemory>
+    fn finish<T>(&self, uses: Uses<T>, run_record: Record) -> Result<RunStop<T>, NoMemory>
         ensures { IfOk result (IsFinished self.now.run.now uses run_record) }
     {
-        let run_record = RecordRef::of_run(alloc, self.run, run_record)?;
+        let run_record = RecordRef::of_run(self.alloc, self.run, run_record)?;
         Ok(RunStop {
             ask: Ask::Finished(self.run.get().copy()?, run_record.copy()?),
             at: RunState::Made(run_record, uses),
@@ -145,18 +134,18 @@ impl<'a> RunMaker<'a> {
     }
 
     /// Nothing is made of a target that the project has not; the order asks for none.
-    pub fn make_nothing<T>(&self, alloc: Global, uses: Uses<T>) -> Result<RunStop<T>, NoMemory>
+    pub fn make_nothing<T>(&self, uses: Uses<T>) -> Result<RunStop<T>, NoMemory>
         ensures { IfOk result (IsFinished self.now.run.now uses (recorded nothing_made [])) }
     {
         let run_record = Record {
             ok: true,
-            decisions: List::new(alloc),
-            items: List::new(alloc),
-            changes: List::new(alloc),
-            notes: List::new(alloc),
-            segments: List::new(alloc),
+            decisions: List::new(self.alloc),
+            items: List::new(self.alloc),
+            changes: List::new(self.alloc),
+            notes: List::new(self.alloc),
+            segments: List::new(self.alloc),
         };
-        self.finish(alloc, uses, run_record)
+        self.finish(uses, run_record)
     }
 }
 
@@ -179,7 +168,7 @@ impl<T: CountedTools> Visit<T> {
         ensures goes { IfOk result
             (let target = target_named (seen_instance self.now.instance).targets
             self.now.run.target in
-            Steps T.answer T.calls world.now self.now.run target
+            Stops T.answer T.calls world.now self.now.run target
             (body_if world.now self.now.run target self.now.state.scope journal.old) nothing_yet
             journal.old journal.new tools.old tools.new) }
         ensures tools { BeginsWith (T.calls tools.old) (T.calls tools.new) }
@@ -187,6 +176,7 @@ impl<T: CountedTools> Visit<T> {
     {
         let run = RunRef::new(alloc, &self.run)?;
         let maker = RunMaker {
+            alloc,
             world,
             instance: &self.instance,
             run: &run,
@@ -197,8 +187,8 @@ impl<T: CountedTools> Visit<T> {
             instance: &self.instance,
         };
         match project.target(&self.run.target) {
-            Some(_) => maker.begin(alloc, tools, &self.state.scope, journal),
-            None => maker.make_nothing(alloc, Snapshots::new()),
+            Some(_) => maker.begin(tools, &self.state.scope, journal),
+            None => maker.make_nothing(Snapshots::new()),
         }
     }
 
@@ -218,7 +208,7 @@ impl<T: CountedTools> Visit<T> {
         ensures goes { IfOk result
             (let target = target_named (seen_instance self.now.instance).targets
             self.now.run.target in
-            GoesOnFrom T.answer T.calls world.now self.now.run target
+            Resumes T.answer T.calls world.now self.now.run target
             (halt_at T.calls world.now self.now.run target self.now.at) results.now journal.old
             journal.new tools.old tools.new) }
         ensures tools { BeginsWith (T.calls tools.old) (T.calls tools.new) }
@@ -229,11 +219,12 @@ impl<T: CountedTools> Visit<T> {
                 let copy = body.copy()?;
                 let run = copy.run()?;
                 let maker = RunMaker {
+                    alloc,
                     world,
                     instance: &self.instance,
                     run: &run,
                 };
-                maker.advance(alloc, tools, copy, uses, journal, results)
+                maker.advance(tools, copy, uses, journal, results)
             }
             RunState::Wanted | RunState::Made(..) => unreachable!(),
         }
@@ -257,7 +248,7 @@ impl<T> Visit<T> {
         match &self.at {
             RunState::Wanted => replay_record(alloc, learnt, journal, run),
             RunState::Made(run_record, _) => {
-                journal.ended(alloc, run, run_record.copy()?)?;
+                journal.add_end(alloc, run, run_record.copy()?)?;
                 run_record.copy()
             }
             RunState::Called(..) => unreachable!(),

@@ -137,14 +137,14 @@ fn with_last<T: Drop>(
     let mut kept = layers.len();
     while kept > 0 && layers[kept - 1].get().len() <= last.len() {
         kept -= 1;
-        last = both(layers[kept].get(), last)?;
+        last = join(layers[kept].get(), last)?;
     }
     let mut all = List::of(alloc, &layers[..kept])?;
     all.push(Shared::new(alloc, last)?)?;
     Ok(all)
 }
 
-fn both<T: Drop>(
+fn join<T: Drop>(
     first: &List<Shared<T>>,
     last: List<Shared<T>>,
 ) -> Result<List<Shared<T>>, NoMemory>

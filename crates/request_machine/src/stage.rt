@@ -69,12 +69,12 @@ impl<T> Stage<T> {
 
     /// How a request stands that is over. In the body of a run it is over only where its project
     /// has no such target, and has failed then.
-    pub fn ended(&self, alloc: Global) -> Result<Stage<T>, NoMemory>
+    pub fn copy_end(&self, alloc: Global) -> Result<Stage<T>, NoMemory>
         ensures { IfOk result (λ stage. stage ≡ ended_stage self.now) }
     {
         match self {
             Stage::Over(reply) => Ok(Stage::Over(reply.copy()?)),
-            Stage::Begins | Stage::Visits(_) => Ok(Stage::Over(Reply::failed(alloc, None))),
+            Stage::Begins | Stage::Visits(_) => Ok(Stage::Over(Reply::failure(alloc, None))),
         }
     }
 }

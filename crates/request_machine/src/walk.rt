@@ -181,8 +181,7 @@ impl<'a, T: CountedTools + 'a> Walker for Walk<'a, T> {
     ghost use Rattle.request_machine.specs.WalkPosition.{
       earlier_position,
       tools_used,
-      walk_position,
-      walk_world,
+      walk_seen,
     };
     ghost use Rattle.request_machine.specs.Worlds.{world_of};
     ghost use Rattle.task_trait.specs.declared.tools.ToolAnswer.{ToolAnswer};
@@ -201,13 +200,7 @@ impl<'a, T: CountedTools + 'a> Walker for Walk<'a, T> {
 
     ghost world_of = { λ origin. world_of T.answer origin.world.now };
 
-    ghost world = { walk_world T.answer };
-
-    ghost position = { walk_position T.calls };
-
-    ghost asked = { λ walk. walk.asked };
-
-    ghost learnt = { λ walk. walk.learnt.finished };
+    ghost seen = { walk_seen T.answer T.calls };
 
     ghost earlier = { earlier_position T.calls };
 
@@ -249,9 +242,9 @@ impl<'a, T: CountedTools + 'a> Walker for Walk<'a, T> {
         self.request.runs.len()
     }
 
-    fn ended(&self) -> Result<Walk<'a, T>, NoMemory> {
+    fn copy_end(&self) -> Result<Walk<'a, T>, NoMemory> {
         Ok(Walk {
-            request: self.request.ended()?,
+            request: self.request.copy_end()?,
             learnt: Table::new(self.request.alloc),
             learnt_before: None,
             asked: 1,
@@ -260,9 +253,9 @@ impl<'a, T: CountedTools + 'a> Walker for Walk<'a, T> {
         })
     }
 
-    fn ended_as(&self, end: &Walk<'a, T>, table: &Table) -> Result<Walk<'a, T>, NoMemory> {
+    fn end_as(&self, end: &Walk<'a, T>, table: &Table) -> Result<Walk<'a, T>, NoMemory> {
         Ok(Walk {
-            request: self.request.ended_as(&end.request, table)?,
+            request: self.request.end_as(&end.request, table)?,
             learnt: Table::new(self.request.alloc),
             learnt_before: None,
             asked: 1,

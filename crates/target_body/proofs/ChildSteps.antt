@@ -30,7 +30,7 @@ use Rattle.target_body.specs.Left.{
   children_frames,
   waiting_task,
 }
-use Rattle.target_body.specs.Moments.{GoesOn, Moment, Plays, done_at, moment, reached_by, state_at}
+use Rattle.target_body.specs.Moments.{Continues, Moment, Plays, done_at, moment, reached_by, state_at}
 use Rattle.target_body.specs.Played.{Player, played, reached_then, waits}
 use Rattle.target_body.specs.Seen.{child_at, ended, seen_done, seen_state}
 use Rattle.target_body.specs.States.{Run, State, Stopped, settled}
@@ -66,7 +66,7 @@ module _ (p : Player) (run : Run) (choice : Choice) where
   -- a child waits, and the children that come later are left
   pub child_waits_here : (place : ℕ) (step : Step AtTask) (t : AtTask) (m : Moment) → step ≡ Waits t
       → IsOfChild place step
-      → GoesOn (child_frames run) (children_frames run choice) p
+      → Continues (child_frames run) (children_frames run choice) p
       (λ end.
       unless_stopped end
       (each_in_turn (child run choice) (drop (suc place) (children_of run.target.element))))
@@ -91,7 +91,7 @@ module _ (p : Player) (run : Run) (choice : Choice) where
       (λ s. each_in_turn (child run choice) (drop next (children_of run.target.element)) s) m
       step_then m1)
       → IfOk r
-      (λ step_then. GoesOn (child_frames run) (children_frames run choice) p
+      (λ step_then. Continues (child_frames run) (children_frames run choice) p
       (λ end.
       unless_stopped end
       (each_in_turn (child run choice) (drop (suc place) (children_of run.target.element))))

@@ -37,7 +37,7 @@ use Rattle.target_body.specs.Left.{
 }
 use Rattle.target_body.specs.Moments.{
   Frames,
-  GoesOn,
+  Continues,
   Moment,
   Plays,
   done_at,
@@ -65,7 +65,8 @@ pub all_nested : {A E F : Type 0} (from : Frames A) (frames : Frames F) (p : Pla
     (part : State → Work (Result State Stopped))
     (f g : Result State Stopped → Work (Result State Stopped))
     (m m1 m2 : Moment) (step : Step A) (r : Result (Step F) E) → Plays from p part m step m1
-    → IfOk r (λ step_then. GoesOn from frames p (λ end. followed_by (f end) g) step m1 step_then m2)
+    → IfOk r (λ step_then. Continues from frames p (λ end. followed_by (f end) g) step m1 step_then
+    m2)
     → IfOk r
     (λ step_then. Plays frames p (λ s. followed_by (followed_by (part s) f) g) m step_then m2)
 all_nested from frames p part f g m m1 m2 step (Ok step_then) plays goes =
@@ -97,7 +98,7 @@ module _ (run : Run) (bucket : Bucket) (choice : Choice) (items : Option (List �
       (results.and_then (ended ending (seen_state held journal))
       (λ s. map_ok (with_decision word) (returned run bucket s)))
       → after.segments ≡ held.segments
-      → GoesOn (children_frames run choice) (bucket_frames run) p behind step
+      → Continues (children_frames run choice) (bucket_frames run) p behind step
       (moment held journal tools) (Over ending_then) (moment after journal tools)
   bucket_ends p word ending ending_then step held after journal tools step_so word_so ended_so same
       =
@@ -119,7 +120,7 @@ module _ (run : Run) (bucket : Bucket) (choice : Choice) (items : Option (List �
 
   pub bucket_waits : (p : Player) (task : AtTask) (step : Step AtTask) (m : Moment)
       → step ≡ Waits task
-      → GoesOn (children_frames run choice) (bucket_frames run) p behind step m
+      → Continues (children_frames run choice) (bucket_frames run) p behind step m
       (Waits (record { bucket = bucket; choice = choice; items = items; task = task })) m
   bucket_waits p task step m step_so =
       let f : Result State Stopped → Work (Result State Stopped) = λ end.
@@ -146,7 +147,7 @@ pub all_entered : {E : Type 0} (choose : Chooser) (run : Run) (bucket : Bucket) 
     → begun
     ≡ record held {
       scope = record found { items = all_put found.items bucket.lists };
-      part = None;
+      task_scope = None;
       unseen =
           [];
     }
@@ -164,7 +165,7 @@ pub entered : (choose : Chooser) (run : Run) (bucket : Bucket) (p : Player) (fou
     → begun
     ≡ record held {
       scope = record found { items = all_put found.items bucket.lists };
-      part = None;
+      task_scope = None;
       unseen =
           [];
     }

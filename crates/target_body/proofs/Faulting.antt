@@ -12,7 +12,7 @@ use Rattle.task_trait.specs.declared.tools.ToolInput.{ToolInput}
 use Rattle.target_body.specs.Played.{Reached, over}
 use Rattle.target_body.specs.Pieces.{as_failed}
 use Rattle.target_body.specs.Seen.{seen_done, seen_state}
-use Rattle.target_body.specs.States.{State, Stopped, faulted, with_notes}
+use Rattle.target_body.specs.States.{State, Stopped, faulted, progress_of, stop_at}
 use Rattle.target_body.specs.declared.state.State.{State as Held}
 
 -- a fault that is noted is not want of memory
@@ -27,10 +27,10 @@ pub faulted_so : (fault : EvalFault) (journal : Journal) (tools : List (List ℕ
     → after ≡ record noted { decisions = noted.decisions ++ Failed ∷ [] }
     → ◌≡◌ {A = Reached (Result State Stopped)}
     (over
-    (Err
-    (as_failed (faulted (with_notes (Fail (fault_text fault) ∷ []) (seen_state held journal)))))
-    (seen_done held journal tools))
-    (over (Err (faulted (seen_state after journal))) (seen_done after journal tools))
+    (Err (as_failed (stop_at fault (seen_state held journal)))) (seen_done held journal tools))
+    (over (Err (faulted (progress_of (seen_state after journal))))
+    (seen_done after journal tools))
 faulted_so fault journal tools held noted after noted_so after_so =
-    sym (ap (λ (h : Held). over (Err (faulted (seen_state h journal))) (seen_done h journal tools))
+    sym (ap (λ (h : Held). over (Err (faulted (progress_of (seen_state h journal))))
+    (seen_done h journal tools))
     (after_so ∙ ap (λ (h : Held). record h { decisions = h.decisions ++ Failed ∷ [] }) noted_so))

@@ -41,20 +41,20 @@ use Rattle.task_trait.specs.declared.tools.ToolInput.{ToolInput}
 use Rattle.task_trait.specs.declared.tools.TaskOutput.{TaskOutput}
 use Rattle.target_texts.specs.OnErrors.{notes_by}
 use Rattle.target_texts.specs.declared.on_error.OnError.{OnError}
-use Rattle.target_body.specs.Answers.{all_acted, given, made, msbuild, tool}
-use Rattle.target_body.specs.Left.{call_frames, call_left, made_from, waiting}
+use Rattle.target_body.specs.Answers.{all_acted, given, make_calls, msbuild, tool}
+use Rattle.target_body.specs.Left.{call_frames, call_left, remaining_calls, waiting}
 use Rattle.target_body.specs.Moments.{EndsAs, Moment, Plays, done_at, moment, reached_by, state_at}
 use Rattle.target_body.specs.Played.{Player, Done, Reached, over, played}
 use Rattle.target_body.specs.Seen.{ended, seen_done, seen_state}
 use Rattle.target_body.specs.States.{Run, State, Stopped, or_stop, taken}
-use Rattle.target_body.specs.Tasks.{answered_to, called_place, ended_by, outputs_if}
+use Rattle.target_body.specs.Tasks.{answered_to, call_context, ended_by, outputs_if}
 use Rattle.target_body.specs.Work.{Work, done, followed_by, unless_stopped}
 use Rattle.target_body.specs.declared.state.State.{State as Held}
 use Rattle.target_body.specs.declared.steps.Ending.{Ending}
 use Rattle.target_body.specs.declared.frames.AtCall.{AtCall}
 use Rattle.target_body.specs.declared.steps.Step.{Step}
 use Rattle.target_body.specs.declared.steps.Step.TheVariants.{Over}
-use Rattle.target_body.proofs.PlannedCalls.{calls_over, made_first, results_on}
+use Rattle.target_body.proofs.PlannedCalls.{calls_over, all_remain, results_on}
 use Rattle.target_body.proofs.Stepping.{plays_then, regrouped}
 
 pub empty_of : (n : ℕ) → (n == 0) ≡ true → n ≡ 0
@@ -77,14 +77,14 @@ module _ (run : Run) (e : At) (gives : Bool) (bucket : Bucket) (on_error : OnErr
       → noted ≡ record held { notes = held.notes ++ notes_by on_error output.notes }
       → ended ending (seen_state after journal)
       ≡ taken
-      (outputs_if gives (called_place run (seen_state noted journal) bucket) output.outputs e)
+      (outputs_if gives (call_context run (seen_state noted journal) bucket) output.outputs e)
       (seen_state noted journal)
       → answered_to run e gives bucket on_error (seen_state held journal, output)
       ≡ results.and_then (ended ending (seen_state after journal)) (ended_by on_error output.ok)
   answered_so output held noted after journal ending is taken_so =
       let P : Held → Type 0 = λ h. ended ending (seen_state after journal)
       ≡ taken
-      (outputs_if gives (called_place run (seen_state h journal) bucket) output.outputs e)
+      (outputs_if gives (call_context run (seen_state h journal) bucket) output.outputs e)
       (seen_state h journal) in
       sym (ap (λ r. results.and_then r (ended_by on_error output.ok)) (subst P is taken_so))
 
@@ -117,7 +117,7 @@ module _ (run : Run) (e : At) (gives : Bool) (bucket : Bucket) (on_error : OnErr
       followed_by (given s output) (λ x. done (answered_to run e gives bucket on_error x)))
       before ending after
       → Plays (call_frames run e gives bucket) p
-      (λ s. followed_by (made_from plan results s)
+      (λ s. followed_by (remaining_calls plan results s)
       (λ x. done (answered_to run e gives bucket on_error (x.0, gathered plan x.1)))) before
       (Over ending) after
   made_over p plan results output before after ending none is ends =
@@ -137,27 +137,28 @@ module _ (run : Run) (e : At) (gives : Bool) (bucket : Bucket) (on_error : OnErr
   -- the calls of an MSBuild task, from the first ones on
   pub planned_on : (p : Player) (plan : Plan) (s : State) (d : Done)
       → played p
-      (followed_by (followed_by (made plan s) (λ x. done (x.0, gathered plan x.1)))
+      (followed_by
+      (followed_by (make_calls (length plan.calls) plan [] s) (λ x. done (x.0, gathered plan x.1)))
       (λ x. done (answered_to run e gives bucket on_error x))) d
       ≡ played p
-      (followed_by (made_from plan [] s)
+      (followed_by (remaining_calls plan [] s)
       (λ x. done (answered_to run e gives bucket on_error (x.0, gathered plan x.1)))) d
   planned_on p plan s d =
-      regrouped p (made plan s) (λ x. done (x.0, gathered plan x.1))
+      regrouped p (make_calls (length plan.calls) plan [] s) (λ x. done (x.0, gathered plan x.1))
       (λ x. done (answered_to run e gives bucket on_error x)) d
       ∙ ap
       (λ w.
       played p
       (followed_by w
       (λ x. done (answered_to run e gives bucket on_error (x.0, gathered plan x.1)))) d)
-      (sym (made_first plan s))
+      (sym (all_remain plan s))
 
   pub resumed_on : (p : Player) (at : AtCall) (results more : List RequestResult)
       (before after : Moment) (step : Step AtCall)
       → at.on_error ≡ on_error → 0 < length (waiting at) → length more ≡ length (waiting at)
       → results ≡ at.results ++ more
       → Plays (call_frames run e gives bucket) p
-      (λ s. followed_by (made_from at.plan results s)
+      (λ s. followed_by (remaining_calls at.plan results s)
       (λ x. done (answered_to run e gives bucket at.on_error (x.0, gathered at.plan x.1))))
       before step after
       → Plays (call_frames run e gives bucket) p
@@ -170,7 +171,7 @@ module _ (run : Run) (e : At) (gives : Bool) (bucket : Bucket) (on_error : OnErr
       (λ x. done (answered_to run e gives bucket at.on_error (x.0, gathered at.plan x.1))))
       (done_at before))
       (results_on at more (state_at before) before.journal waits fits
-      ∙ ap (λ (r : List RequestResult). made_from at.plan r (state_at before)) (sym is))
+      ∙ ap (λ (r : List RequestResult). remaining_calls at.plan r (state_at before)) (sym is))
       ∙ plays
 
   pub all_resumed : {E : Type 0} (p : Player) (at : AtCall) (results more : List RequestResult)
@@ -179,7 +180,7 @@ module _ (run : Run) (e : At) (gives : Bool) (bucket : Bucket) (on_error : OnErr
       → results ≡ at.results ++ more
       → IfOk r
       (λ step. Plays (call_frames run e gives bucket) p
-      (λ s. followed_by (made_from at.plan results s)
+      (λ s. followed_by (remaining_calls at.plan results s)
       (λ x. done (answered_to run e gives bucket at.on_error (x.0, gathered at.plan x.1))))
       before step after)
       → IfOk r
@@ -194,7 +195,7 @@ module _ (run : Run) (e : At) (gives : Bool) (bucket : Bucket) (on_error : OnErr
       → plan ≡ plan_of run.files (folder_of run.instance.path) run.instance.globals params
       → first ≡ []
       → Plays (call_frames run e gives bucket) p
-      (λ s. followed_by (made_from plan first s)
+      (λ s. followed_by (remaining_calls plan first s)
       (λ x. done (answered_to run e gives bucket on_error (x.0, gathered plan x.1)))) before
       step after
       → Plays (call_frames run e gives bucket) p
@@ -205,7 +206,7 @@ module _ (run : Run) (e : At) (gives : Bool) (bucket : Bucket) (on_error : OnErr
       step after in
       let P : Plan → List RequestResult → Type 0 = λ plan first.
       played p
-      (followed_by (made_from plan first (state_at before))
+      (followed_by (remaining_calls plan first (state_at before))
       (λ x. done (answered_to run e gives bucket on_error (x.0, gathered plan x.1))))
       (done_at before) ≡ reached in
       let of_plan : Plan = plan_of run.files (folder_of run.instance.path) run.instance.globals
@@ -220,7 +221,7 @@ module _ (run : Run) (e : At) (gives : Bool) (bucket : Bucket) (on_error : OnErr
       → first ≡ []
       → IfOk r
       (λ step. Plays (call_frames run e gives bucket) p
-      (λ s. followed_by (made_from plan first s)
+      (λ s. followed_by (remaining_calls plan first s)
       (λ x. done (answered_to run e gives bucket on_error (x.0, gathered plan x.1)))) before
       step after)
       → IfOk r

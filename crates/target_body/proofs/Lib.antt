@@ -11,4 +11,3 @@ pub mod Faulting
 pub mod Telling
 pub mod Deciding
 pub mod Treating
-pub mod Parts

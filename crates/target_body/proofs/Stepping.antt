@@ -19,7 +19,7 @@ use Rattle.task_trait.specs.Tools.{BeginsWith}
 use Rattle.target_body.specs.Work.{Work, followed_by, unless_stopped, each_in_turn}
 use Rattle.target_body.specs.States.{State, Stopped}
 use Rattle.target_body.specs.Played.{Player, Done, Reached, over, played, reached_then}
-use Rattle.target_body.specs.Moments.{Moment, Frames, Plays, GoesOn, reached_by, state_at, done_at}
+use Rattle.target_body.specs.Moments.{Moment, Frames, Plays, Continues, reached_by, state_at, done_at}
 use Rattle.target_body.specs.declared.steps.Step.{Step}
 use Rattle.target_body.proofs.Playing.{played_on, follow_on}
 
@@ -40,7 +40,7 @@ pub joined : {E F : Type 0} (from : Frames E) (frames : Frames F) (p : Player)
     (part : State → Work (Result State Stopped))
     (next : Result State Stopped → Work (Result State Stopped))
     (m m1 m2 : Moment) (step : Step E) (step_then : Step F) → Plays from p part m step m1
-    → GoesOn from frames p next step m1 step_then m2
+    → Continues from frames p next step m1 step_then m2
     → played p (followed_by (part (state_at m)) next) (done_at m) ≡ reached_by frames step_then m2
 joined from frames p part next m m1 m2 step step_then plays goes = plays_then p (part (state_at m))
     next (done_at m) (reached_by from step m1) plays ∙ goes
@@ -86,7 +86,7 @@ pub all_joined : {A E F : Type 0} (from : Frames A) (frames : Frames F) (p : Pla
     (part : State → Work (Result State Stopped))
     (next : Result State Stopped → Work (Result State Stopped))
     (m m1 m2 : Moment) (step : Step A) (r : Result (Step F) E) → Plays from p part m step m1
-    → IfOk r (λ step_then. GoesOn from frames p next step m1 step_then m2)
+    → IfOk r (λ step_then. Continues from frames p next step m1 step_then m2)
     → IfOk r (λ step_then. Plays frames p (λ s. followed_by (part s) next) m step_then m2)
 all_joined from frames p part next m m1 m2 step (Ok step_then) plays goes = joined from frames p
     part next m m1 m2 step step_then plays goes

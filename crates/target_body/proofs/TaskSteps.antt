@@ -57,7 +57,7 @@ use Rattle.target_body.specs.Left.{
 use Rattle.target_body.specs.Moments.{
   EndsAs,
   Frames,
-  GoesOn,
+  Continues,
   Moment,
   Plays,
   done_at,
@@ -69,14 +69,15 @@ use Rattle.target_body.specs.Moments.{
 use Rattle.target_body.specs.Played.{Player, over, played, reached_then, waits}
 use Rattle.target_body.specs.Seen.{child_at, ended, seen_done, seen_run, seen_state}
 use Rattle.target_body.specs.States.{
+  Progress,
   Run,
   State,
   Stopped,
+  context_in,
   faulted,
   or_stop,
-  place_in,
+  progress_of,
   settled,
-  task_scope,
 }
 use Rattle.target_body.specs.Tasks.{call, called, inferred, task, then_inferred}
 use Rattle.target_body.specs.Work.{Work, and_then, done, each_in_turn, followed_by, unless_stopped}
@@ -99,8 +100,8 @@ noted cause told p = p
 pub goes_as : {A E F : Type 0} (from : Frames A) (frames : Frames F) (p : Player)
     (next : Result State Stopped → Work (Result State Stopped)) (before after : Moment)
     (step other : Step A) (r : Result (Step F) E)
-    → step ≡ other → IfOk r (λ step_then. GoesOn from frames p next other before step_then after)
-    → IfOk r (λ step_then. GoesOn from frames p next step before step_then after)
+    → step ≡ other → IfOk r (λ step_then. Continues from frames p next other before step_then after)
+    → IfOk r (λ step_then. Continues from frames p next step before step_then after)
 goes_as {A} from frames p next before after step other (Ok step_then) same goes = ap
     (λ (s : Step A). reached_then p (reached_by from s before) next) same ∙ goes
 goes_as from frames p next before after step other (Err error) same goes = goes
@@ -122,7 +123,7 @@ module _ (p : Player) (run : Run) (e : At) where
   pub calls_wait_so : (child : ℕ) (gives : Bool) (bucket : Bucket) (later : List Bucket)
       (at : AtCall) (m : Moment)
       → e ≡ child_at run child
-      → GoesOn (call_frames run e gives bucket) (calls_frames run) p
+      → Continues (call_frames run e gives bucket) (calls_frames run) p
       (λ end. unless_stopped end (each_in_turn (call run e gives) later)) (Waits at) m
       (Waits (record { child = child; gives = gives; bucket = bucket; later = later; call = at })) m
   calls_wait_so child gives bucket later at m same =
@@ -140,7 +141,7 @@ module _ (p : Player) (run : Run) (e : At) where
       → ended final (seen_state after journal)
       ≡ map_ok settled (ended inferring (seen_state mid journal))
       → after.segments ≡ mid.segments
-      → GoesOn (calls_frames run) (child_frames run) p
+      → Continues (calls_frames run) (child_frames run) p
       (λ end. done (map_ok settled (inferred_unless gives run e end))) step
       (moment held journal tools) (Over final) (moment after journal tools)
   child_over gives step held mid after journal tools ending inferring final is inferred_so kept
@@ -157,7 +158,7 @@ module _ (p : Player) (run : Run) (e : At) where
   -- or they wait
   pub child_waits : (child : ℕ) (gives : Bool) (step : Step AtTask) (t : AtTask) (m : Moment)
       → step ≡ Waits t → IsOfTask child gives step → e ≡ child_at run child
-      → GoesOn (calls_frames run) (child_frames run) p
+      → Continues (calls_frames run) (child_frames run) p
       (λ end. done (map_ok settled (inferred_unless gives run e end))) step m (Waits t) m
   child_waits child gives step t m is of_task same =
       let of : (t.child ≡ child)
@@ -174,16 +175,17 @@ module _ (p : Player) (run : Run) (e : At) where
       (same ∙ ap (λ (n : ℕ). child_at run n) (sym of.0))
 
   -- nothing is inferred where a text has a fault
-  unless_faulted : (gives : Bool) (s : State)
-      → inferred_unless gives run e (Err (faulted s)) ≡ Err (faulted s)
-  unless_faulted true s = refl
-  unless_faulted false s = refl
+  unless_faulted : (gives : Bool) (p : Progress)
+      → inferred_unless gives run e (Err (faulted p)) ≡ Err (faulted p)
+  unless_faulted true p = refl
+  unless_faulted false p = refl
 
   -- an element whose buckets a fault keeps from being formed
   pub called_stops : (gives : Bool) (fault : EvalFault) (held after : Held) (journal : Journal)
       (tools : List (List ℕ × ToolInput))
-      → task_buckets (place_in run (seen_state held journal) (task_scope (seen_state held journal)))
-      e ≡ Err fault
+      → task_buckets
+      (context_in run (seen_state held journal) (seen_state held journal).task_scope) e
+      ≡ Err fault
       → after ≡ record held { notes = held.notes ++ Fail (fault_text fault) ∷ [] }
       → EndsAs p
       (λ s. followed_by (called run e gives s)
@@ -200,18 +202,18 @@ module _ (p : Player) (run : Run) (e : At) where
       (unless_stopped (or_stop s r) (λ buckets. each_in_turn (call run e gives) buckets s)) f)
       (seen_done held journal tools)) is
       ∙ ap (λ (r : Result State Stopped). over (map_ok settled r) (seen_done held journal tools))
-      (unless_faulted gives (seen_state noting journal))
+      (unless_faulted gives (progress_of (seen_state noting journal)))
       ∙ ap (λ (h : Held). over (ended Faulted (seen_state h journal)) (seen_done h journal tools))
       (sym noting_so)
 
   -- an element is called in these buckets, and what follows on its calls
   pub all_called : {E : Type 0} (gives : Bool) (buckets later : List Bucket) (m m1 m2 : Moment)
       (step : Step AtTask) (r : Result (Step AtTask) E)
-      → task_buckets (place_in run (state_at m) (task_scope (state_at m))) e ≡ Ok buckets
+      → task_buckets (context_in run (state_at m) (state_at m).task_scope) e ≡ Ok buckets
       → later ≡ buckets
       → Plays (calls_frames run) p (λ s. each_in_turn (call run e gives) later s) m step m1
       → IfOk r
-      (λ step_then. GoesOn (calls_frames run) (child_frames run) p
+      (λ step_then. Continues (calls_frames run) (child_frames run) p
       (λ end. done (map_ok settled (inferred_unless gives run e end))) step m1 step_then m2)
       → IfOk r
       (λ step_then. Plays (child_frames run) p
@@ -245,11 +247,11 @@ module _ {E : Type 0} (answer : List ℕ → ToolInput → ToolAnswer) (t : AtTa
       → e ≡ child_at run t.child
       → Plays (call_frames run e t.gives t.bucket) p
       (λ s. call_left run e t.gives t.bucket t.call s results m.journal) m called_step m1
-      → GoesOn (call_frames run e t.gives t.bucket) (calls_frames run) p
+      → Continues (call_frames run e t.gives t.bucket) (calls_frames run) p
       (λ end. unless_stopped end (each_in_turn (call run e t.gives) t.later)) called_step m1
       step m2
       → IfOk r
-      (λ step_then. GoesOn (calls_frames run) (child_frames run) p
+      (λ step_then. Continues (calls_frames run) (child_frames run) p
       (λ end. done (map_ok settled (inferred_unless t.gives run e end))) step m2 step_then m3)
       → IfOk r
       (λ step_then. Plays (child_frames run) p (λ s. child_left run t s results m.journal) m
@@ -279,11 +281,11 @@ module _ {E : Type 0} (answer : List ℕ → ToolInput → ToolAnswer) (t : AtTa
       let p : Player = player context.id.now answer in
       Plays (call_frames run e gives t.bucket) p
       (λ s. call_left run e gives t.bucket t.call s results m.journal) m called_step m1
-      × GoesOn (call_frames run e gives t.bucket) (calls_frames run) p
+      × Continues (call_frames run e gives t.bucket) (calls_frames run) p
       (λ end. unless_stopped end (each_in_turn (call run e gives) t.later)) called_step m1 step
       m2
       × IfOk r
-      (λ step_then. GoesOn (calls_frames run) (child_frames run) p
+      (λ step_then. Continues (calls_frames run) (child_frames run) p
       (λ end. done (map_ok settled (inferred_unless gives run e end))) step m2 step_then m3)
 
   resumed_here : (context : RunContext) (e : At) → e ≡ child_at (seen_run context) t.child

@@ -1,6 +1,22 @@
 -- How a task is answered: by the tasks that are built in, by the requests that it calls, or by a
 -- tool. (Task element; MSBuild tasks; MSBuild task)
-use Rattle.std.specs.Prelude.{ℕ, List, [], ◌∷◌, ◌++◌, Bool, true, false, Result, Ok, Err, codes}
+use Rattle.std.specs.Prelude.{
+  ℕ,
+  zero,
+  suc,
+  List,
+  [],
+  ◌∷◌,
+  ◌++◌,
+  length,
+  Bool,
+  true,
+  false,
+  Result,
+  Ok,
+  Err,
+  codes,
+}
 use Rattle.std.specs.Str.{bytes_eq}
 use Rattle.msb_laws.specs.Words.{Name}
 use Rattle.msb_values.specs.declared.act.Act.{Act}
@@ -16,7 +32,7 @@ use Rattle.task_trait.specs.declared.tools.ToolAnswer.TheVariants.{Unknown, Made
 use Rattle.task_trait.specs.declared.tools.ToolInput.{ToolInput}
 use Rattle.task_kit.specs.Foreign.{foreign_input, foreign_output}
 use Rattle.task_kit.specs.Tasks.{answer}
-use Rattle.task_msbuild.specs.Plans.{plan_of, has_stopped}
+use Rattle.task_msbuild.specs.Plans.{next_calls, plan_of}
 use Rattle.task_msbuild.specs.Gathered.{gathered}
 use Rattle.task_msbuild.specs.declared.plans.Plan.{Plan}
 use Rattle.target_body.specs.Work.{Work, done, does, uses, calls, followed_by}
@@ -30,30 +46,26 @@ all_acted (act ∷ rest) s = does act (λ journal. all_acted rest (with_act act 
 abbrev pub given : State → TaskOutput → Work (State × TaskOutput)
 given s output = followed_by (all_acted output.acts s) (λ after. done (after, output))
 
--- the calls of an MSBuild task are made at once
-abbrev pub at_once : List RequestKey → State → Work (State × List RequestResult)
-at_once [] s = done (s, [])
-at_once (key ∷ keys) s = calls key keys (λ results journal. done (with_journal journal s, results))
+-- these requests are called at once
+abbrev pub call_at_once : List RequestKey → State → Work (State × List RequestResult)
+call_at_once [] s = done (s, [])
+call_at_once (key ∷ keys) s = calls key keys
+    (λ results journal. done (with_journal journal s, results))
 
--- or one after the other, up to one that fails, if it is to stop there
-abbrev pub in_order : Plan → List RequestResult → List RequestKey → State
+-- In each round the calls that come next are made at once. A round makes one at least, unless no
+-- call is left, so as many rounds as calls are enough. (MSBuild task: BuildInParallel,
+-- StopOnFirstFailure)
+abbrev pub make_calls : (rounds : ℕ) → Plan → List RequestResult → State
     → Work (State × List RequestResult)
-in_order plan results [] s = done (s, results)
-in_order plan results (key ∷ keys) s =
-    elim (has_stopped plan results) [
-      | true ↦ done (s, results)
-      | false ↦ calls key []
-          (λ more journal. in_order plan (results ++ more) keys (with_journal journal s))
-    ]
-
-abbrev pub made : Plan → State → Work (State × List RequestResult)
-made plan s = elim plan.parallel
-    [ true ↦ at_once plan.calls s | false ↦ in_order plan [] plan.calls s ]
+make_calls zero plan results s = done (s, results)
+make_calls (suc rounds) plan results s =
+    followed_by (call_at_once (next_calls plan results) s)
+    (λ x. make_calls rounds plan (results ++ x.1) x.0)
 
 abbrev pub msbuild : Run → State → List Param → Work (State × TaskOutput)
 msbuild run s params =
     let plan : Plan = plan_of run.files (folder_of run.instance.path) run.instance.globals params in
-    followed_by (made plan s) (λ x. done (x.0, gathered plan x.1))
+    followed_by (make_calls (length plan.calls) plan [] s) (λ x. done (x.0, gathered plan x.1))
 
 -- a tool is handed the parameters and the files of Sources
 abbrev pub tool : Name → State → Result ToolInput Failure → Work (State × TaskOutput)

@@ -9,11 +9,11 @@ use Rattle.task_trait.specs.declared.tools.ToolAnswer.{ToolAnswer}
 use Rattle.task_trait.specs.declared.tools.ToolInput.{ToolInput}
 use Rattle.target_texts.specs.Batched.{target_buckets}
 use Rattle.target_body.specs.Work.{Work, done, followed_by, unless_stopped, each_in_turn, body_of}
-use Rattle.target_body.specs.States.{Run, State, Stopped, begun, or_stop, outcome_of, place_in}
+use Rattle.target_body.specs.States.{Run, State, Stopped, begun, or_stop, outcome_of, context_in}
 use Rattle.target_body.specs.Pieces.{Chooser, bucket_by, choice_of, or_failed}
 
 abbrev pub buckets_at : Run → State → Result (List Bucket) Stopped
-buckets_at run s = or_stop s (target_buckets (place_in run s s.scope) run.target.element)
+buckets_at run s = or_stop s (target_buckets (context_in run s s.scope) run.target.element)
 
 -- bucket by bucket, or the one word `failed` where there are none to form
 abbrev pub buckets_by : Chooser → Run → Scope → State → Work (Result State Stopped)

@@ -14,17 +14,16 @@ use Rattle.target_body.specs.States.{
   State,
   Stopped,
   or_stop,
-  with_changes_seen,
-  without_scope,
+  after_group,
   settled,
-  place_in,
+  context_in,
 }
 use Rattle.target_body.specs.Tasks.{task}
 
 -- a PropertyGroup or an ItemGroup: all its changes, or none where one of its texts has a fault
 abbrev pub group : Run → At → State → Result State Stopped
-group run e s = map_ok (λ changes. with_changes_seen changes s)
-    (or_stop (without_scope s) (group_changes (place_in run s s.scope) e))
+group run e s = map_ok (λ changes. after_group changes s)
+    (or_stop s (group_changes (context_in run s s.scope) e))
 
 pub data Kind : Type 0 where
   group_element : Kind
@@ -43,7 +42,7 @@ child_by group_element run choice e s = done (group run e s)
 child_by on_error_element run choice e s = done (Ok s)
 child_by task_element run choice e s = task run choice e s
 
--- a child, whose changes the scope has when it is over
+-- a child, whose changes the scopes have when it is over
 abbrev pub child : Run → Choice → At → State → Work (Result State Stopped)
 child run choice e s = followed_by (child_by (kind_of (name_of e.node)) run choice e s)
     (λ end. done (map_ok settled end))

@@ -1,20 +1,6 @@
 -- Where the run of a target waits for the results of calls, and what is left of it then: what the
 -- machine's stack stands for. (MSBuild task)
-use Rattle.std.specs.Prelude.{
-  ◌≡◌,
-  ℕ,
-  suc,
-  List,
-  [],
-  ◌∷◌,
-  ◌++◌,
-  length,
-  drop,
-  Bool,
-  true,
-  false,
-  Result,
-}
+use Rattle.std.specs.Prelude.{◌≡◌, ℕ, suc, List, ◌++◌, length, ◌-◌, drop, Bool, true, false, Result}
 use Rattle.msb_laws.specs.Results.{map_ok}
 use Rattle.msb_expand.specs.declared.lens.Bucket.{Bucket}
 use Rattle.result_cache.specs.Journal.{Journal}
@@ -36,7 +22,7 @@ use Rattle.target_body.specs.States.{
   with_decision,
   with_journal,
 }
-use Rattle.target_body.specs.Answers.{in_order}
+use Rattle.target_body.specs.Answers.{make_calls}
 use Rattle.target_body.specs.Tasks.{answered_to, call, then_inferred}
 use Rattle.target_body.specs.Children.{child}
 use Rattle.target_body.specs.Returned.{returned}
@@ -58,26 +44,12 @@ waiting c = next_calls c.plan c.results
 abbrev pub results_left : AtCall → State → List RequestResult → Journal
     → Work (State × List RequestResult)
 results_left c s results journal =
-    elim c.plan.parallel [
-      | true ↦ done (with_journal journal s, c.results ++ results)
-      | false ↦ in_order c.plan (c.results ++ results) (drop (suc (length c.results)) c.plan.calls)
-          (with_journal journal s)
-    ]
+    make_calls (length c.plan.calls - suc (length c.results)) c.plan (c.results ++ results)
+    (with_journal journal s)
 
-abbrev pub rest_at_once : List RequestKey → List RequestResult → State
-    → Work (State × List RequestResult)
-rest_at_once [] results s = done (s, results)
-rest_at_once (key ∷ keys) results s = calls key keys
-    (λ more journal. done (with_journal journal s, results ++ more))
-
--- the calls of a plan from the next one on, when these are the results of the first ones; calls
--- that are made at once have no results, or all
-abbrev pub made_from : Plan → List RequestResult → State → Work (State × List RequestResult)
-made_from plan results s =
-    elim plan.parallel [
-      | true ↦ rest_at_once (drop (length results) plan.calls) results s
-      | false ↦ in_order plan results (drop (length results) plan.calls) s
-    ]
+-- the calls of a plan from the next ones on, when these are the results of the first ones
+abbrev pub remaining_calls : Plan → List RequestResult → State → Work (State × List RequestResult)
+remaining_calls plan results s = make_calls (length plan.calls - length results) plan results s
 
 -- of a bucket of a task element
 abbrev pub call_left : Run → At → Bool → Bucket → AtCall → State → List RequestResult → Journal

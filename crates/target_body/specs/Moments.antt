@@ -52,10 +52,11 @@ abbrev pub Plays : {F : Type 0} → Frames F → Player → (State → Work (Res
 Plays frames p part before step after = played p (part (state_at before)) (done_at before)
     ≡ reached_by frames step after
 
-abbrev pub GoesOn : {E F : Type 0} → Frames E → Frames F → Player
+abbrev pub Continues : {E F : Type 0} → Frames E → Frames F → Player
     → (Result State Stopped → Work (Result State Stopped)) → Step E → Moment → Step F → Moment
     → Type 0
-GoesOn from frames p next step before step_then after = reached_then p (reached_by from step before)
+Continues from frames p next step before step_then after = reached_then p
+    (reached_by from step before)
     next ≡ reached_by frames step_then after
 
 -- a part that doesn't wait

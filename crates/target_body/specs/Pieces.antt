@@ -3,6 +3,9 @@
 use Rattle.std.specs.Prelude.{
   ℕ,
   List,
+  [],
+  ◌∷◌,
+  ◌++◌,
   length,
   Option,
   Some,
@@ -49,7 +52,7 @@ use Rattle.target_body.specs.States.{
   on_part,
   with_decision,
   view_of,
-  place_in,
+  context_in,
 }
 use Rattle.target_body.specs.Children.{children}
 use Rattle.target_texts.specs.Lists.{Lists, lists_by}
@@ -60,7 +63,7 @@ use Rattle.target_body.specs.Returned.{returned}
 abbrev pub lists_at : Run → Bucket → State → Result (Option Lists) EvalFault
 lists_at run bucket s =
     let e = run.target.element in
-    lists_by (in_target (place_in run s s.scope) bucket) e (attribute_of (codes "Inputs") e)
+    lists_by (in_target (context_in run s s.scope) bucket) e (attribute_of (codes "Inputs") e)
     (attribute_of (codes "Outputs") e)
 
 -- what is chosen for a bucket of a target that has Inputs and Outputs, by its lists and the state
@@ -114,7 +117,7 @@ chosen_or_run choose run bucket s (Some lists) = decided run bucket (choose list
 
 -- the word for a bucket in which the run has stopped
 abbrev pub as_failed : Stopped → Stopped
-as_failed (faulted s) = faulted (with_decision Failed s)
+as_failed (faulted p) = faulted (record p { decisions = p.decisions ++ Failed ∷ [] })
 as_failed (failed s) = failed (with_decision Failed s)
 
 abbrev pub or_failed : {X : Type 0} → Result X Stopped → Result X Stopped

@@ -1,5 +1,5 @@
 -- What the code holds of a run.
-use Rattle.std.specs.Prelude.{ℕ, List, [], ◌∷◌, get_or, Result, Ok, Err}
+use Rattle.std.specs.Prelude.{ℕ, List, [], ◌∷◌, get_or, unwrap_or, Result, Ok, Err}
 use Rattle.msb_laws.specs.Words.{Name}
 use Rattle.build_world.specs.Elements.{At, children_of}
 use Rattle.build_world.specs.Instances.{seen_target}
@@ -17,7 +17,7 @@ use Rattle.target_body.specs.Children.{
   task_element,
 }
 use Rattle.target_body.specs.Pieces.{Chooser, choice_of}
-use Rattle.target_body.specs.States.{Run, State, Stopped, faulted, failed}
+use Rattle.target_body.specs.States.{Run, State, Stopped, faulted, failed, progress_of}
 use Rattle.target_body.specs.declared.children.Kind.{Kind}
 use Rattle.target_body.specs.declared.children.Kind.TheVariants.{Group, OnError, Task}
 use Rattle.target_body.specs.declared.run_context.RunContext.{RunContext}
@@ -39,7 +39,7 @@ seen_chooser context = choice_of context.world.now.mode (seen_run context)
 abbrev pub seen_state : Held → Journal → State
 seen_state s journal = record {
   scope = s.scope;
-  part = s.part;
+  task_scope = unwrap_or s.task_scope s.scope;
   unseen = s.unseen;
   journal = journal;
   written = s.written;
@@ -55,7 +55,7 @@ seen_done s journal tools = record { segments = s.segments; tools = tools; journ
 -- how a part ends in this state
 abbrev pub ended : Ending → State → Result State Stopped
 ended Fine s = Ok s
-ended Faulted s = Err (faulted s)
+ended Faulted s = Err (faulted (progress_of s))
 ended Failed s = Err (failed s)
 
 -- a child of the target by its place; at no child's place, the target itself

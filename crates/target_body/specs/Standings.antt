@@ -1,8 +1,6 @@
 -- Where the body of a run stands between its calls, and what its next step is by the definition of
 -- bodies. (Target element; MSBuild task)
-use Rattle.std.specs.Prelude.{◌≡◌, ℕ, List, [], ◌∷◌, ◌++◌, length, map, Option}
-use Rattle.std.specs.List.{find}
-use Rattle.std.specs.Str.{bytes_eq}
+use Rattle.std.specs.Prelude.{◌≡◌, ℕ, List, [], ◌∷◌, ◌++◌, length, map}
 use Rattle.msb_laws.specs.Words.{Name}
 use Rattle.msb_values.specs.declared.scope.Scope.{Scope}
 use Rattle.result_cache.specs.Journal.{Journal}
@@ -32,10 +30,6 @@ use Rattle.target_body.specs.declared.state.State.{State}
 use Rattle.target_body.specs.declared.steps.Step.{Step}
 use Rattle.target_body.specs.declared.steps.Step.TheVariants.{Over, Waits}
 use Rattle.target_body.specs.declared.body.Stand.TheVariants.{Begun, Waiting, Ended}
-
--- the target of this name
-abbrev pub target_named : List UsedTarget → Name → Option UsedTarget
-target_named targets name = find (λ target. bytes_eq target.name name) targets
 
 abbrev pub run_with : World → RunId → UsedTarget → Run
 run_with world = run_at world.tree.files

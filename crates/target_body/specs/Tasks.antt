@@ -30,12 +30,10 @@ use Rattle.target_body.specs.States.{
   Stopped,
   failed,
   faulted,
-  state_of,
   or_stop,
   taken,
-  task_scope,
   with_notes,
-  place_in,
+  context_in,
 }
 use Rattle.target_texts.specs.Made.{Made, all_made}
 use Rattle.target_texts.specs.OnErrors.{on_error_at, notes_by}
@@ -45,8 +43,8 @@ use Rattle.target_texts.specs.Inferred.{task_of, inferred_at}
 use Rattle.target_body.specs.Answers.{answered}
 
 -- what its texts see where it is called
-abbrev pub called_place : Run → State → Bucket → ElementContext
-called_place run s bucket = in_bucket (place_in run s (task_scope s)) bucket
+abbrev pub call_context : Run → State → Bucket → ElementContext
+call_context run s bucket = in_bucket (context_in run s s.task_scope) bucket
 
 -- the body stops where a task has failed, unless it goes on
 abbrev pub failed_by : OnError → State → Result State Stopped
@@ -68,7 +66,7 @@ abbrev pub answered_to : Run → At → Bool → Bucket → OnError → State ×
     → Result State Stopped
 answered_to run e gives bucket on_error x =
     results.and_then
-    (taken (outputs_if gives (called_place run x.0 bucket) x.1.outputs e)
+    (taken (outputs_if gives (call_context run x.0 bucket) x.1.outputs e)
     (with_notes (notes_by on_error x.1.notes) x.0))
     (ended_by on_error x.1.ok)
 
@@ -97,22 +95,27 @@ called_with run e gives bucket s (Some ready) =
 
 -- a bucket
 abbrev pub call : Run → At → Bool → Bucket → State → Work (Result State Stopped)
-call run e gives bucket s = unless_stopped (or_stop s (readied (called_place run s bucket) e))
+call run e gives bucket s = unless_stopped (or_stop s (readied (call_context run s bucket) e))
     (called_with run e gives bucket s)
 
 -- it is called bucket by bucket, each of which sees the scope as the element found it
 abbrev pub called : Run → At → Bool → State → Work (Result State Stopped)
-called run e gives s = unless_stopped (or_stop s (task_buckets (place_in run s (task_scope s)) e))
+called run e gives s = unless_stopped (or_stop s (task_buckets (context_in run s s.task_scope) e))
     (λ buckets. each_in_turn (call run e gives) buckets s)
 
 abbrev pub inferred : Run → At → State → Result State Stopped
-inferred run e s = taken (inferred_at (place_in run s s.scope) e) s
+inferred run e s = taken (inferred_at (context_in run s s.scope) e) s
+
+-- a run that has failed doesn't go on
+abbrev pub still_failed : Result State Stopped → Result State Stopped
+still_failed (Ok s) = Err (failed s)
+still_failed (Err stop) = Err stop
 
 -- after the calls, also after one that stops the body; a fault stops it at once
 abbrev pub then_inferred : Run → At → Result State Stopped → Result State Stopped
 then_inferred run e (Ok s) = inferred run e s
-then_inferred run e (Err (failed s)) = Err (failed (state_of (inferred run e s)))
-then_inferred run e (Err (faulted s)) = Err (faulted s)
+then_inferred run e (Err (failed s)) = still_failed (inferred run e s)
+then_inferred run e (Err (faulted p)) = Err (faulted p)
 
 -- by what is decided of the target's bucket
 abbrev pub task : Run → Choice → At → State → Work (Result State Stopped)

@@ -56,7 +56,7 @@ impl State {
             return Err(NoMemory);
         };
         let number = self.segments.len() as u64;
-        journal.acted(alloc, run, number, act.copy()?)?;
+        journal.add_act(alloc, run, number, act.copy()?)?;
         self.segments.push(Segment::File(act))?;
         self.written = written;
         Ok(())

@@ -16,9 +16,8 @@ ghost use Rattle.target_body.specs.Standings.{
   body_in,
   standing_by,
   standing_in,
-  target_named,
 };
-ghost use Rattle.target_body.specs.States.{Run, outcome_of};
+ghost use Rattle.target_body.specs.States.{Run, outcome_of, target_named};
 ghost use Rattle.target_body.specs.Work.{body_of};
 
 use crate::frames::AtRun;
@@ -46,6 +45,7 @@ pub enum BodyAsk {
 /// The body of a run: it goes on by itself, adds what it does to files to the journal and uses
 /// tools, until it calls requests or is over. (Target element; MSBuild task.)
 pub struct Body {
+    pub(crate) alloc: Global,
     pub(crate) run: RunRef,
     pub(crate) stand: Stand,
 }
@@ -53,7 +53,11 @@ pub struct Body {
 // A drop that is written out is proved here alone.
 impl Drop for Body {
     fn drop(self) {
-        let Body { run: _, stand: _ } = self;
+        let Body {
+            alloc: _,
+            run: _,
+            stand: _,
+        } = self;
     }
 }
 
@@ -95,8 +99,8 @@ impl Body {
         ensures begins { (choose : Chooser) (run : Run) →
             IfOk result (λ body. standing_by choose run body.stand ≡ begins scope.now) }
     {
-        let _ = alloc;
         Ok(Body {
+            alloc,
             run: run.copy()?,
             stand: Stand::Begun(scope.copy()?),
         })
@@ -115,7 +119,6 @@ impl Body {
     /// is claimed of the journal; the calls of the tools then begin with those of before.
     pub fn advance<T: CountedTools>(
         &mut self,
-        alloc: Global,
         world: &World,
         tools: &mut T,
         instance: &Instance,
@@ -142,20 +145,20 @@ impl Body {
         };
         let stand = mem::replace(&mut self.stand, Stand::Ended);
         let context = RunContext {
+            alloc: self.alloc,
             world,
             id: &self.run,
             target,
         };
-        let (ask, stand) = stand.go_on(alloc, &context, results, tools, journal)?;
+        let (ask, stand) = stand.advance(&context, results, tools, journal)?;
         self.stand = stand;
         Ok(ask)
     }
 }
 
 impl Stand {
-    fn go_on<T: CountedTools>(
+    fn advance<T: CountedTools>(
         self,
-        alloc: Global,
         context: &RunContext<'_>,
         results: &List<RequestResult>,
         tools: &mut T,
@@ -171,15 +174,14 @@ impl Stand {
         ensures begun { BeginsWith (T.calls tools.old) (T.calls tools.new) }
     {
         match self {
-            Stand::Begun(scope) => begin(alloc, context, scope, tools, journal),
-            Stand::Waiting(waiting) => waiting.resume(alloc, context, results, tools, journal),
+            Stand::Begun(scope) => begin(context, scope, tools, journal),
+            Stand::Waiting(waiting) => waiting.resume(context, results, tools, journal),
             Stand::Ended => unreachable!(),
         }
     }
 }
 
 fn begin<T: CountedTools>(
-    alloc: Global,
     context: &RunContext<'_>,
     scope: Scope,
     tools: &mut T,
@@ -191,15 +193,14 @@ fn begin<T: CountedTools>(
         journal.new (T.calls tools.old) (T.calls tools.new) r.0 (standing_by choose run r.1)) }
     ensures begun { BeginsWith (T.calls tools.old) (T.calls tools.new) }
 {
-    let mut state = State::new(alloc, scope.copy()?);
-    let step = state.begin(alloc, context, scope, tools, journal)?;
-    tell(alloc, state, step)
+    let mut state = State::new(context.alloc, scope.copy()?);
+    let step = state.begin(context, scope, tools, journal)?;
+    tell(context.alloc, state, step)
 }
 
 impl Waiting {
     fn resume<T: CountedTools>(
         self,
-        alloc: Global,
         context: &RunContext<'_>,
         results: &List<RequestResult>,
         tools: &mut T,
@@ -219,8 +220,8 @@ impl Waiting {
         let Waiting { state, at } = self;
         let mut state = state;
         state.add_calls(at.waiting(), results.as_slice())?;
-        let step = at.resume(alloc, &mut state, context, results.copy()?, tools, journal)?;
-        tell(alloc, state, step)
+        let step = at.resume(&mut state, context, results.copy()?, tools, journal)?;
+        tell(context.alloc, state, step)
     }
 }
 
@@ -284,6 +285,7 @@ impl Copied for Body {
             Stand::Ended => Stand::Ended,
         };
         Ok(Body {
+            alloc: self.alloc,
             run: self.run.copy()?,
             stand,
         })

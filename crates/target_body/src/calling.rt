@@ -26,14 +26,14 @@ ghost use Rattle.target_texts.specs.Inferred.{task_of};
 ghost use Rattle.target_texts.specs.Parameters.{params_at};
 ghost use Rattle.target_texts.specs.Seen.{seen_context};
 ghost use Rattle.target_body.specs.Answers.{answered, given, msbuild, not_built_in, tool};
-ghost use Rattle.target_body.specs.Left.{call_frames, call_left, made_from, waiting};
+ghost use Rattle.target_body.specs.Left.{call_frames, call_left, remaining_calls, waiting};
 ghost use Rattle.target_body.specs.Moments.{EndsAs, Plays, moment, player};
 ghost use Rattle.target_body.specs.Seen.{ended, seen_run, seen_state};
 ghost use Rattle.target_body.specs.States.{State as Now, taken};
 ghost use Rattle.target_body.specs.Tasks.{
   answered_to,
   call as call_in,
-  called_place,
+  call_context,
   called_with,
   ended_by,
   outputs_if,
@@ -42,8 +42,7 @@ ghost use Rattle.target_body.specs.Tasks.{
 ghost use Rattle.target_body.specs.Work.{done, followed_by};
 
 use crate::frames::AtCall;
-use crate::part::{own_or, scope_of_part};
-use crate::run_context::{RunContext, place_in_bucket};
+use crate::run_context::{RunContext, context_in_bucket};
 use crate::state::State;
 use crate::steps::{Ending, Step};
 use build_world::{EvalFault, PlacedElement};
@@ -68,11 +67,17 @@ pub(crate) struct TaskCall<'a> {
     pub(crate) bucket: &'a Bucket,
 }
 
+/// A call of a task by its name.
+#[derive(Clone, Copy)]
+struct NamedCall<'a> {
+    call: TaskCall<'a>,
+    task: &'a Name,
+}
+
 impl State {
     /// Calls a task in a bucket, unless its Condition is false. (Task element.)
     pub(crate) fn call<T: CountedTools>(
         &mut self,
-        alloc: Global,
         call: &TaskCall<'_>,
         tools: &mut T,
         journal: &mut Journal,
@@ -86,13 +91,13 @@ impl State {
             (moment self.new journal.new (T.calls tools.new))) }
         ensures begun { BeginsWith (T.calls tools.old) (T.calls tools.new) }
     {
-        match self.ready(alloc, &*call, &*journal) {
+        match self.ready(&*call, &*journal) {
             Ok(Some((on_error, params))) => {
-                self.call_with(alloc, call, on_error, params, tools, journal)
+                self.call_with(call, on_error, params, tools, journal)
             }
             Ok(None) => Ok(Step::Over(Ending::Fine)),
             Err(fault) => {
-                self.note_fault(alloc, &fault)?;
+                self.note_fault(call.context.alloc, &fault)?;
                 Ok(Step::Over(Ending::Faulted))
             }
         }
@@ -101,28 +106,23 @@ impl State {
     // What the task is called with, as the texts of its element say in the scope that tasks see.
     fn ready<'x>(
         &'x self,
-        alloc: Global,
         call: &'x TaskCall<'x>,
         journal: &'x Journal,
     ) -> Result<Option<(OnError, List<Param>)>, EvalFault>
         ensures { GivesFault (λ ready. ready) result
             (readied
-            (called_place (seen_run call.entry.now.context)
+            (call_context (seen_run call.entry.now.context)
             (seen_state self.entry.now journal.entry.now) call.entry.now.bucket.now)
             (seen_element call.entry.now.element)) }
     {
-        let Ok(own) = scope_of_part(&self.scope, &self.part) else {
-            return Err(EvalFault::memory(alloc));
-        };
         let view = FileView::of(&call.context.world.tree, journal);
-        let scope = own_or(&own, &self.scope);
-        let place = place_in_bucket(&view, call.context.project(), scope, call.bucket);
-        read_call(alloc, &place, &call.element)
+        let scope = self.task_scope();
+        let element_context = context_in_bucket(&view, call.context.project(), scope, call.bucket);
+        read_call(call.context.alloc, &element_context, &call.element)
     }
 
     fn call_with<T: CountedTools>(
         &mut self,
-        alloc: Global,
         call: &TaskCall<'_>,
         on_error: OnError,
         params: List<Param>,
@@ -138,12 +138,18 @@ impl State {
             (moment self.new journal.new (T.calls tools.new))) }
         ensures begun { BeginsWith (T.calls tools.old) (T.calls tools.new) }
     {
-        match Name::written(alloc, call.element.element.name())? {
-            Some(task) => self.answer(alloc, call, &task, on_error, params, tools, journal),
+        match Name::look_up(call.context.alloc, call.element.element.name())? {
+            Some(task) => {
+                let named = NamedCall {
+                    call: *call,
+                    task: &task,
+                };
+                self.answer(named, on_error, params, tools, journal)
+            }
             None => {
-                let task = task_of(alloc, &call.element)?;
-                let output = Failure::UnknownTask.output(alloc, task.as_str())?;
-                Ok(Step::Over(self.give(alloc, call, on_error, output, journal)?))
+                let task = task_of(call.context.alloc, &call.element)?;
+                let output = Failure::UnknownTask.output(call.context.alloc, task.as_str())?;
+                Ok(Step::Over(self.give(call, on_error, output, journal)?))
             }
         }
     }
@@ -151,68 +157,75 @@ impl State {
     // A task that is built in answers at once.
     fn answer<T: CountedTools>(
         &mut self,
-        alloc: Global,
-        call: &TaskCall<'_>,
-        task: &Name,
+        named: NamedCall<'_>,
         on_error: OnError,
         params: List<Param>,
         tools: &mut T,
         journal: &mut Journal,
     ) -> Result<Step<AtCall>, NoMemory>
         ensures plays { IfOk result
-            (λ step. let run = seen_run call.now.context in let e = seen_element call.now.element in
-            Plays (call_frames run e call.now.gives call.now.bucket.now)
-            (player call.now.context.id.now T.answer)
-            (λ s. followed_by (answered run s task.now params)
-            (λ x. done (answered_to run e call.now.gives call.now.bucket.now on_error x)))
+            (λ step. let call = named.entry.call in
+            let run = seen_run call.context in let e = seen_element call.element in
+            Plays (call_frames run e call.gives call.bucket.now)
+            (player call.context.id.now T.answer)
+            (λ s. followed_by (answered run s named.entry.task.now params)
+            (λ x. done (answered_to run e call.gives call.bucket.now on_error x)))
             (moment self.old journal.old (T.calls tools.old)) step
             (moment self.new journal.new (T.calls tools.new))) }
         ensures begun { BeginsWith (T.calls tools.old) (T.calls tools.new) }
     {
         let input = ToolInput {
             params,
-            files: List::new(alloc),
+            files: List::new(named.call.context.alloc),
         };
-        match built_in(alloc, &call.context, task, &input, self.written, journal)? {
+        match call_built_in(
+            &named.call.context,
+            named.task,
+            &input,
+            self.written,
+            journal,
+        )? {
             ToolAnswer::Made(output) => {
-                Ok(Step::Over(self.give(alloc, call, on_error, output, journal)?))
+                Ok(Step::Over(self.give(&named.call, on_error, output, journal)?))
             }
-            ToolAnswer::Unknown if task.key() == "msbuild" => {
-                self.plan_calls(alloc, call, on_error, &input, journal)
+            ToolAnswer::Unknown if named.task.key() == "msbuild" => {
+                self.plan_calls(&named.call, on_error, &input, journal)
             }
-            ToolAnswer::Unknown => {
-                self.use_tool(alloc, call, task, on_error, input.params, tools, journal)
-            }
+            ToolAnswer::Unknown => self.use_tool(named, on_error, input.params, tools, journal),
         }
     }
 
     // A tool is handed the parameters and the files of Sources. (UsingTask element.)
     fn use_tool<T: CountedTools>(
         &mut self,
-        alloc: Global,
-        call: &TaskCall<'_>,
-        task: &Name,
+        named: NamedCall<'_>,
         on_error: OnError,
         params: List<Param>,
         tools: &mut T,
         journal: &mut Journal,
     ) -> Result<Step<AtCall>, NoMemory>
         ensures plays { IfOk result
-            (λ step. let run = seen_run call.now.context in let e = seen_element call.now.element in
-            Plays (call_frames run e call.now.gives call.now.bucket.now)
-            (player call.now.context.id.now T.answer)
-            (λ s. followed_by (not_built_in false run s task.now params)
-            (λ x. done (answered_to run e call.now.gives call.now.bucket.now on_error x)))
+            (λ step. let call = named.entry.call in
+            let run = seen_run call.context in let e = seen_element call.element in
+            Plays (call_frames run e call.gives call.bucket.now)
+            (player call.context.id.now T.answer)
+            (λ s. followed_by (not_built_in false run s named.entry.task.now params)
+            (λ x. done (answered_to run e call.gives call.bucket.now on_error x)))
             (moment self.old journal.old (T.calls tools.old)) step
             (moment self.new journal.new (T.calls tools.new))) }
         ensures begun { BeginsWith (T.calls tools.old) (T.calls tools.new) }
     {
-        let view = FileView::of(&call.context.world.tree, journal);
-        match foreign_input(alloc, call.context.folder(), &view, params) {
-            Ok(input) => self.call_tool(alloc, call, task, on_error, &input, tools, journal),
+        let view = FileView::of(&named.call.context.world.tree, journal);
+        match foreign_input(
+            named.call.context.alloc,
+            named.call.context.folder(),
+            &view,
+            params,
+        ) {
+            Ok(input) => self.call_tool(named, on_error, &input, tools, journal),
             Err(failure) => {
-                let output = failure.output(alloc, task.key())?;
-                Ok(Step::Over(self.give(alloc, call, on_error, output, journal)?))
+                let output = failure.output(named.call.context.alloc, named.task.key())?;
+                Ok(Step::Over(self.give(&named.call, on_error, output, journal)?))
             }
         }
     }
@@ -220,33 +233,31 @@ impl State {
     // What a tool gives of its input.
     fn call_tool<T: CountedTools>(
         &mut self,
-        alloc: Global,
-        call: &TaskCall<'_>,
-        task: &Name,
+        named: NamedCall<'_>,
         on_error: OnError,
         input: &ToolInput,
         tools: &mut T,
         journal: &mut Journal,
     ) -> Result<Step<AtCall>, NoMemory>
         ensures plays { IfOk result
-            (λ step. let run = seen_run call.now.context in let e = seen_element call.now.element in
-            Plays (call_frames run e call.now.gives call.now.bucket.now)
-            (player call.now.context.id.now T.answer)
-            (λ s. followed_by (tool task.now s (TheOk input.now))
-            (λ x. done (answered_to run e call.now.gives call.now.bucket.now on_error x)))
+            (λ step. let call = named.entry.call in
+            let run = seen_run call.context in let e = seen_element call.element in
+            Plays (call_frames run e call.gives call.bucket.now)
+            (player call.context.id.now T.answer)
+            (λ s. followed_by (tool named.entry.task.now s (TheOk input.now))
+            (λ x. done (answered_to run e call.gives call.bucket.now on_error x)))
             (moment self.old journal.old (T.calls tools.old)) step
             (moment self.new journal.new (T.calls tools.new))) }
         ensures begun { BeginsWith (T.calls tools.old) (T.calls tools.new) }
     {
-        let answer = tools.call(alloc, task, input)?;
-        let output = foreign_output(alloc, task, answer, self.written)?;
-        Ok(Step::Over(self.give(alloc, call, on_error, output, journal)?))
+        let answer = tools.call(named.call.context.alloc, named.task, input)?;
+        let output = foreign_output(named.call.context.alloc, named.task, answer, self.written)?;
+        Ok(Step::Over(self.give(&named.call, on_error, output, journal)?))
     }
 
     // The MSBuild task calls requests.
     fn plan_calls(
         &mut self,
-        alloc: Global,
         call: &TaskCall<'_>,
         on_error: OnError,
         input: &ToolInput,
@@ -263,19 +274,24 @@ impl State {
     {
         let context = &call.context;
         let tree = &context.world.tree;
-        let plan = plan(alloc, tree, context.folder(), context.globals(), input)?;
+        let plan = plan(
+            context.alloc,
+            tree,
+            context.folder(),
+            context.globals(),
+            input,
+        )?;
         let at = AtCall {
             plan,
-            results: List::new(alloc),
+            results: List::new(context.alloc),
             on_error,
         };
-        self.make_calls(alloc, call, at, journal)
+        self.make_calls(call, at, journal)
     }
 
     // Waits for the next calls of the plan, or gives what they have given.
     fn make_calls(
         &mut self,
-        alloc: Global,
         call: &TaskCall<'_>,
         at: AtCall,
         journal: &mut Journal,
@@ -286,7 +302,7 @@ impl State {
             (λ step. let run = seen_run call.now.context in let e = seen_element call.now.element in
             Plays (call_frames run e call.now.gives call.now.bucket.now)
             (player call.now.context.id.now answer)
-            (λ s. followed_by (made_from at.plan at.results s)
+            (λ s. followed_by (remaining_calls at.plan at.results s)
             (λ x.
             done
             (answered_to run e call.now.gives call.now.bucket.now at.on_error
@@ -294,16 +310,15 @@ impl State {
             (moment self.new journal.new tools)) }
     {
         if at.plan.next(&at.results).is_empty() {
-            let output = gather(alloc, &at.plan, &at.results)?;
-            return Ok(Step::Over(self.give(alloc, call, at.on_error, output, journal)?));
+            let output = gather(call.context.alloc, &at.plan, &at.results)?;
+            return Ok(Step::Over(self.give(call, at.on_error, output, journal)?));
         }
         Ok(Step::Waits(at))
     }
 
     /// Goes on when the results of calls have come. (MSBuild task.)
-    pub(crate) fn call_on(
+    pub(crate) fn resume_call(
         &mut self,
-        alloc: Global,
         call: &TaskCall<'_>,
         at: AtCall,
         results: List<RequestResult>,
@@ -321,13 +336,12 @@ impl State {
     {
         let mut at = at;
         at.results.append(results)?;
-        self.make_calls(alloc, call, at, journal)
+        self.make_calls(call, at, journal)
     }
 
     // What a task gives: its acts are done, and then its notes and its Outputs are taken.
     fn give(
         &mut self,
-        alloc: Global,
         call: &TaskCall<'_>,
         on_error: OnError,
         output: TaskOutput,
@@ -348,9 +362,14 @@ impl State {
             acts,
             notes,
         } = output;
-        self.act_all(alloc, call.context.id, acts.into_vec(), journal)?;
-        self.add_notes(on_error.notes(alloc, notes)?)?;
-        match self.take_outputs(alloc, call, &outputs, journal)? {
+        self.act_all(
+            call.context.alloc,
+            call.context.id,
+            acts.into_vec(),
+            journal,
+        )?;
+        self.add_notes(on_error.notes(call.context.alloc, notes)?)?;
+        match self.take_outputs(call, &outputs, journal)? {
             Ending::Fine => Ok(ending_of(on_error, ok)),
             Ending::Faulted => Ok(Ending::Faulted),
             Ending::Failed => Ok(Ending::Failed),
@@ -359,7 +378,6 @@ impl State {
 
     fn take_outputs(
         &mut self,
-        alloc: Global,
         call: &TaskCall<'_>,
         outputs: &List<Param>,
         journal: &Journal,
@@ -368,19 +386,18 @@ impl State {
             ended ending (seen_state self.new journal.now)
             ≡ taken
             (outputs_if call.now.gives
-            (called_place run (seen_state self.old journal.now) call.now.bucket.now) outputs.now
+            (call_context run (seen_state self.old journal.now) call.now.bucket.now) outputs.now
             (seen_element call.now.element)) (seen_state self.old journal.now)) }
         ensures kept { OnOk result (self.new.segments ≡ self.old.segments) }
     {
-        let mut changes = List::new(alloc);
-        let end = self.push_outputs(alloc, &*call, outputs, &*journal, &mut changes);
-        self.take(alloc, changes, end)
+        let mut changes = List::new(call.context.alloc);
+        let end = self.push_outputs(&*call, outputs, &*journal, &mut changes);
+        self.take(call.context.alloc, changes, end)
     }
 
     // The Outputs see the scope that tasks see.
     fn push_outputs<'x>(
         &'x self,
-        alloc: Global,
         call: &'x TaskCall<'x>,
         outputs: &List<Param>,
         journal: &'x Journal,
@@ -388,20 +405,23 @@ impl State {
     ) -> Result<(), EvalFault>
         ensures { Pushes result changes.old changes.new
             (outputs_if call.entry.now.gives
-            (called_place (seen_run call.entry.now.context)
+            (call_context (seen_run call.entry.now.context)
             (seen_state self.entry.now journal.entry.now) call.entry.now.bucket.now) outputs.now
             (seen_element call.entry.now.element)) }
     {
         if !call.gives {
             return Ok(());
         }
-        let Ok(own) = scope_of_part(&self.scope, &self.part) else {
-            return Err(EvalFault::memory(alloc));
-        };
         let view = FileView::of(&call.context.world.tree, journal);
-        let scope = own_or(&own, &self.scope);
-        let place = place_in_bucket(&view, call.context.project(), scope, call.bucket);
-        push_outputs(alloc, &place, outputs, &call.element, changes)
+        let scope = self.task_scope();
+        let element_context = context_in_bucket(&view, call.context.project(), scope, call.bucket);
+        push_outputs(
+            call.context.alloc,
+            &element_context,
+            outputs,
+            &call.element,
+            changes,
+        )
     }
 }
 
@@ -415,8 +435,7 @@ fn ending_of(on_error: OnError, ok: bool) -> Ending
     }
 }
 
-fn built_in(
-    alloc: Global,
+fn call_built_in(
     context: &RunContext<'_>,
     task: &Name,
     input: &ToolInput,
@@ -429,21 +448,21 @@ fn built_in(
         input.now.params written) }
 {
     let view = FileView::of(&context.world.tree, journal);
-    task_kit::call(alloc, task, context.folder(), &view, input, written)
+    task_kit::call(context.alloc, task, context.folder(), &view, input, written)
 }
 
 // The Condition of the element, its ContinueOnError, and then its parameters.
 fn read_call(
     alloc: Global,
-    place: &ElementContext<'_, FileView<'_>>,
+    context: &ElementContext<'_, FileView<'_>>,
     element: &PlacedElement<'_>,
 ) -> Result<Option<(OnError, List<Param>)>, EvalFault>
     ensures { GivesFault (λ ready. ready) result
-        (readied (seen_context place.now) (seen_element element.now)) }
+        (readied (seen_context context.now) (seen_element element.now)) }
 {
-    if place.element_holds(alloc, element)? {
-        let on_error = OnError::at(alloc, place, element)?;
-        let params = params_of(alloc, place, element)?;
+    if context.element_holds(alloc, element)? {
+        let on_error = OnError::at(alloc, context, element)?;
+        let params = params_of(alloc, context, element)?;
         return Ok(Some((on_error, params)));
     }
     Ok(None)
@@ -451,18 +470,16 @@ fn read_call(
 
 fn params_of(
     alloc: Global,
-    place: &ElementContext<'_, FileView<'_>>,
+    context: &ElementContext<'_, FileView<'_>>,
     element: &PlacedElement<'_>,
 ) -> Result<List<Param>, EvalFault>
     ensures { GivesFault (λ params. params) result
-        (params_at (seen_context place.now) (seen_element element.now)
+        (params_at (seen_context context.now) (seen_element element.now)
         (task_of (seen_element element.now))) }
 {
-    let Ok(task) = task_of(alloc, element) else {
-        return Err(EvalFault::memory(alloc));
-    };
+    let task = task_of(alloc, element)?;
     let task = TaskElement {
-        context: *place,
+        context: *context,
         element: *element,
         task: task.as_str(),
     };

@@ -12,13 +12,13 @@ ghost use Rattle.target_body.specs.Left.{
   children_left,
   waiting,
 };
-ghost use Rattle.target_body.specs.Moments.{GoesOn, Plays, moment, player};
+ghost use Rattle.target_body.specs.Moments.{Continues, Plays, moment, player};
 ghost use Rattle.target_body.specs.Seen.{child_at, ended, seen_kind, seen_run, seen_state};
 ghost use Rattle.target_body.specs.Work.{each_in_turn, unless_stopped};
 
 use crate::frames::AtTask;
-use crate::part::{no_scope, part_after_all};
 use crate::run_context::RunContext;
+use crate::scopes::apply_to_own;
 use crate::state::State;
 use crate::steps::{Ending, Step};
 use build_world::PlacedElement;
@@ -51,27 +51,35 @@ impl Kind {
     }
 }
 
+/// The run at hand in a bucket of its target: what is decided of the bucket. (How to build
+/// incrementally.)
+#[derive(Clone, Copy)]
+pub(crate) struct BucketContext<'a> {
+    pub(crate) run: RunContext<'a>,
+    pub(crate) choice: &'a Choice,
+}
+
 impl State {
     /// Takes the children from this place on, in order, by what is decided of the bucket. (Target
     /// element.)
     pub(crate) fn children<T: CountedTools>(
         &mut self,
-        alloc: Global,
-        context: &RunContext<'_>,
-        choice: &Choice,
+        context: &BucketContext<'_>,
         from: usize,
         tools: &mut T,
         journal: &mut Journal,
     ) -> Result<Step<AtTask>, NoMemory>
-        ensures plays { IfOk result (λ step. let run = seen_run context.now in
-            Plays (children_frames run choice.now) (player context.now.id.now T.answer)
-            (λ s. each_in_turn (child run choice.now) (drop from (children_of run.target.element))
+        ensures plays { IfOk result (λ step. let run = seen_run context.now.run in
+            Plays (children_frames run context.now.choice.now)
+            (player context.now.run.id.now T.answer)
+            (λ s. each_in_turn (child run context.now.choice.now)
+            (drop from (children_of run.target.element))
             s) (moment self.old journal.old (T.calls tools.old)) step
             (moment self.new journal.new (T.calls tools.new))) }
         ensures begun { BeginsWith (T.calls tools.old) (T.calls tools.new) }
     {
-        for place in from..context.target.at.element.count() {
-            match self.child(alloc, context, choice, place, tools, journal)? {
+        for place in from..context.run.target.at.element.count() {
+            match self.child(context, place, tools, journal)? {
                 Step::Over(Ending::Fine) => {}
                 Step::Over(Ending::Faulted) => return Ok(Step::Over(Ending::Faulted)),
                 Step::Over(Ending::Failed) => return Ok(Step::Over(Ending::Failed)),
@@ -83,29 +91,27 @@ impl State {
 
     fn child<T: CountedTools>(
         &mut self,
-        alloc: Global,
-        context: &RunContext<'_>,
-        choice: &Choice,
+        context: &BucketContext<'_>,
         place: usize,
         tools: &mut T,
         journal: &mut Journal,
     ) -> Result<Step<AtTask>, NoMemory>
-        ensures plays { IfOk result (λ step. let run = seen_run context.now in
-            Plays (child_frames run) (player context.now.id.now T.answer)
-            (child run choice.now (child_at run place))
+        ensures plays { IfOk result (λ step. let run = seen_run context.now.run in
+            Plays (child_frames run) (player context.now.run.id.now T.answer)
+            (child run context.now.choice.now (child_at run place))
             (moment self.old journal.old (T.calls tools.old)) step
             (moment self.new journal.new (T.calls tools.new))) }
         ensures child { IfOk result (λ step. IsOfChild place step) }
         ensures begun { BeginsWith (T.calls tools.old) (T.calls tools.new) }
     {
-        let element = context.child(place);
+        let element = context.run.child(place);
         match Kind::of(element.element.name()) {
             Kind::Group => {
-                let ending = self.group(alloc, context, &element, journal)?;
-                Ok(Step::Over(self.settle_after(alloc, ending)?))
+                let ending = self.group(&context.run, &element, journal)?;
+                Ok(Step::Over(self.settle_after(context.run.alloc, ending)?))
             }
-            Kind::OnError => Ok(Step::Over(self.settle_after(alloc, Ending::Fine)?)),
-            Kind::Task => self.task(alloc, context, place, choice, tools, journal),
+            Kind::OnError => Ok(Step::Over(self.settle_after(context.run.alloc, Ending::Fine)?)),
+            Kind::Task => self.task(context, place, tools, journal),
         }
     }
 
@@ -113,7 +119,6 @@ impl State {
     // has a fault.
     fn group(
         &mut self,
-        alloc: Global,
         context: &RunContext<'_>,
         element: &PlacedElement<'_>,
         journal: &Journal,
@@ -125,39 +130,36 @@ impl State {
     {
         let view = FileView::of(&context.world.tree, journal);
         let project = context.project();
-        match change_by_group(alloc, &view, project, element, &mut self.scope) {
+        match change_by_group(context.alloc, &view, project, element, &mut self.scope) {
             Ok(changes) => {
-                part_after_all(alloc, &mut self.part, changes.as_slice())?;
+                apply_to_own(context.alloc, &mut self.task_scope, changes.as_slice())?;
                 self.changes.append(changes)?;
                 Ok(Ending::Fine)
             }
             Err(fault) => {
-                // Some of the group's changes may be made, and nothing looks at the scope behind a
-                // fault.
-                self.scope = no_scope(alloc);
-                self.note_fault(alloc, &fault)?;
+                // Some of the group's changes may be made in the scope, at which nothing looks behind
+                // a fault.
+                self.note_fault(context.alloc, &fault)?;
                 Ok(Ending::Faulted)
             }
         }
     }
 
-    fn children_on<T: CountedTools>(
+    fn after_child<T: CountedTools>(
         &mut self,
-        alloc: Global,
-        context: &RunContext<'_>,
-        choice: &Choice,
+        context: &BucketContext<'_>,
         place: usize,
         step: Step<AtTask>,
         tools: &mut T,
         journal: &mut Journal,
     ) -> Result<Step<AtTask>, NoMemory>
         requires { IsOfChild place step }
-        ensures goes { IfOk result (λ step_then. let run = seen_run context.now in
-            GoesOn (child_frames run) (children_frames run choice.now)
-            (player context.now.id.now T.answer)
+        ensures goes { IfOk result (λ step_then. let run = seen_run context.now.run in
+            Continues (child_frames run) (children_frames run context.now.choice.now)
+            (player context.now.run.id.now T.answer)
             (λ end.
             unless_stopped end
-            (each_in_turn (child run choice.now)
+            (each_in_turn (child run context.now.choice.now)
             (drop (suc place) (children_of run.target.element)))) step
             (moment self.old journal.old (T.calls tools.old)) step_then
             (moment self.new journal.new (T.calls tools.new))) }
@@ -169,7 +171,7 @@ impl State {
                     let Some(next) = place.checked_add(1) else {
                         return Err(NoMemory);
                     };
-                    self.children(alloc, context, choice, next, tools, journal)
+                    self.children(context, next, tools, journal)
                 }
                 Ending::Faulted | Ending::Failed => Ok(Step::Over(ending)),
             },
@@ -180,9 +182,7 @@ impl State {
     /// Goes on with the children when the results of calls have come. (MSBuild task.)
     pub(crate) fn resume_children<T: CountedTools>(
         &mut self,
-        alloc: Global,
-        context: &RunContext<'_>,
-        choice: &Choice,
+        context: &BucketContext<'_>,
         task: AtTask,
         results: List<RequestResult>,
         tools: &mut T,
@@ -190,15 +190,16 @@ impl State {
     ) -> Result<Step<AtTask>, NoMemory>
         requires waits { 0 < length (waiting task.call) }
         requires fits { length results ≡ length (waiting task.call) }
-        ensures plays { IfOk result (λ step. let run = seen_run context.now in
-            Plays (children_frames run choice.now) (player context.now.id.now T.answer)
-            (λ s. children_left run choice.now task s results journal.old)
+        ensures plays { IfOk result (λ step. let run = seen_run context.now.run in
+            Plays (children_frames run context.now.choice.now)
+            (player context.now.run.id.now T.answer)
+            (λ s. children_left run context.now.choice.now task s results journal.old)
             (moment self.old journal.old (T.calls tools.old)) step
             (moment self.new journal.new (T.calls tools.new))) }
         ensures begun { BeginsWith (T.calls tools.old) (T.calls tools.new) }
     {
         let place = task.child;
-        let step = task.resume_task(alloc, self, context, results, tools, journal)?;
-        self.children_on(alloc, context, choice, place, step, tools, journal)
+        let step = task.resume_task(self, &context.run, results, tools, journal)?;
+        self.after_child(context, place, step, tools, journal)
     }
 }

@@ -19,11 +19,14 @@ ghost use Rattle.target_body.specs.Moments.{Plays, moment, player};
 ghost use Rattle.target_body.specs.Seen.{seen_chooser, seen_run};
 
 use crate::calling::TaskCall;
-use crate::later::{Buckets, bucket_copy};
+use crate::children::BucketContext;
+use crate::later::{Buckets, copy_bucket};
+use crate::pieces::Piece;
 use crate::run_context::RunContext;
+use crate::running::TargetBuckets;
 use crate::state::State;
 use crate::steps::Step;
-use crate::tasks::TaskChild;
+use crate::tasks::{TaskBuckets, TaskChild};
 use msb_expand::Bucket;
 use msb_files::Journal;
 use msb_values::{Copied, Item, List, Name, NoMemory, Scope};
@@ -128,7 +131,6 @@ impl AtTask {
     /// Goes on with a task element when the results of calls have come. (MSBuild task.)
     pub(crate) fn resume_task<T: CountedTools>(
         self,
-        alloc: Global,
         state: &mut State,
         context: &RunContext<'_>,
         results: List<RequestResult>,
@@ -159,9 +161,9 @@ impl AtTask {
             gives: at.gives,
             bucket: &bucket,
         };
-        let step = state.call_on(alloc, &in_bucket, call, results, journal)?;
-        let step = state.calls_on(alloc, &at, bucket, later, step, tools, journal)?;
-        state.child_on(alloc, &at, step, journal)
+        let step = state.resume_call(&in_bucket, call, results, journal)?;
+        let step = state.after_call(&at, TaskBuckets { bucket, later }, step, tools, journal)?;
+        state.after_calls(&at, step, journal)
     }
 }
 
@@ -169,7 +171,6 @@ impl AtBucket {
     /// Goes on with a bucket of the target when the results of calls have come. (MSBuild task.)
     pub(crate) fn resume_bucket<T: CountedTools>(
         self,
-        alloc: Global,
         state: &mut State,
         context: &RunContext<'_>,
         results: List<RequestResult>,
@@ -191,8 +192,17 @@ impl AtBucket {
             items,
             task,
         } = self;
-        let step = state.resume_children(alloc, context, &choice, task, results, tools, journal)?;
-        state.bucket_on(alloc, context, bucket, choice, items, step, journal)
+        let bucket_context = BucketContext {
+            run: *context,
+            choice: &choice,
+        };
+        let step = state.resume_children(&bucket_context, task, results, tools, journal)?;
+        let piece = Piece {
+            bucket,
+            choice,
+            items,
+        };
+        state.after_children(context, piece, step, journal)
     }
 }
 
@@ -200,7 +210,6 @@ impl AtRun {
     /// Goes on when the results of calls have come. (MSBuild task.)
     pub(crate) fn resume<T: CountedTools>(
         self,
-        alloc: Global,
         state: &mut State,
         context: &RunContext<'_>,
         results: List<RequestResult>,
@@ -218,15 +227,21 @@ impl AtRun {
         ensures begun { BeginsWith (T.calls tools.old) (T.calls tools.new) }
     {
         let AtRun { found, at, later } = self;
-        let step = at.resume_bucket(alloc, state, context, results, tools, journal)?;
-        state.buckets_on(alloc, context, found, later, step, tools, journal)
+        let step = at.resume_bucket(state, context, results, tools, journal)?;
+        state.after_bucket(
+            context,
+            TargetBuckets { found, later },
+            step,
+            tools,
+            journal,
+        )
     }
 }
 
 impl Copied for AtCall {
     fn copy(&self) -> Result<AtCall, NoMemory> {
         Ok(AtCall {
-            plan: plan_copy(&self.plan)?,
+            plan: copy_plan(&self.plan)?,
             results: self.results.copy()?,
             on_error: self.on_error,
         })
@@ -238,7 +253,7 @@ impl Copied for AtTask {
         Ok(AtTask {
             child: self.child,
             gives: self.gives,
-            bucket: bucket_copy(self.later.allocator(), &self.bucket)?,
+            bucket: copy_bucket(self.later.allocator(), &self.bucket)?,
             later: self.later.copy()?,
             call: self.call.copy()?,
         })
@@ -248,9 +263,9 @@ impl Copied for AtTask {
 impl Copied for AtBucket {
     fn copy(&self) -> Result<AtBucket, NoMemory> {
         Ok(AtBucket {
-            bucket: bucket_copy(self.task.later.allocator(), &self.bucket)?,
-            choice: choice_copy(&self.choice)?,
-            items: typed_copy(&self.items)?,
+            bucket: copy_bucket(self.task.later.allocator(), &self.bucket)?,
+            choice: copy_choice(&self.choice)?,
+            items: copy_typed(&self.items)?,
             task: self.task.copy()?,
         })
     }
@@ -266,7 +281,7 @@ impl Copied for AtRun {
     }
 }
 
-fn plan_copy(plan: &Plan) -> Result<Plan, NoMemory>
+fn copy_plan(plan: &Plan) -> Result<Plan, NoMemory>
     ensures { IfOk result (λ copy. copy ≡ plan.now) }
 {
     Ok(Plan {
@@ -278,7 +293,7 @@ fn plan_copy(plan: &Plan) -> Result<Plan, NoMemory>
     })
 }
 
-fn choice_copy(choice: &Choice) -> Result<Choice, NoMemory>
+fn copy_choice(choice: &Choice) -> Result<Choice, NoMemory>
     ensures { IfOk result (λ copy. copy ≡ choice.now) }
 {
     match choice {
@@ -290,9 +305,7 @@ fn choice_copy(choice: &Choice) -> Result<Choice, NoMemory>
 }
 
 /// A type and items of it, if there are any, once more.
-pub(crate) fn typed_copy<I: Copied + Drop>(
-    typed: &Option<(Name, I)>,
-) -> Result<Option<(Name, I)>, NoMemory>
+fn copy_typed(typed: &Option<(Name, List<Item>)>) -> Result<Option<(Name, List<Item>)>, NoMemory>
     ensures { IfOk result (λ copy. copy ≡ typed.now) }
 {
     match typed {

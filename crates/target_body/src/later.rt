@@ -62,13 +62,13 @@ fn copies_of(alloc: Global, buckets: &[Bucket]) -> Result<Vec<Bucket>, NoMemory>
 {
     let mut copies = Vec::with_capacity(alloc, buckets.len())?;
     for bucket in buckets {
-        copies.push(bucket_copy(alloc, bucket)?)?;
+        copies.push(copy_bucket(alloc, bucket)?)?;
     }
     Ok(copies)
 }
 
 /// An equal bucket.
-pub(crate) fn bucket_copy(alloc: Global, bucket: &Bucket) -> Result<Bucket, NoMemory>
+pub(crate) fn copy_bucket(alloc: Global, bucket: &Bucket) -> Result<Bucket, NoMemory>
     ensures { IfOk result (λ copy. copy ≡ bucket.now) }
 {
     let values = without_lists(alloc, bucket)?.values;

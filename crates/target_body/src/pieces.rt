@@ -12,7 +12,7 @@ ghost use Rattle.target_incremental.specs.Decisions.{decision};
 ghost use Rattle.target_texts.specs.Returned.{returns_of};
 ghost use Rattle.target_texts.specs.Seen.{seen_lists};
 ghost use Rattle.target_body.specs.Left.{bucket_frames, children_frames};
-ghost use Rattle.target_body.specs.Moments.{GoesOn, Plays, moment, player};
+ghost use Rattle.target_body.specs.Moments.{Continues, Plays, moment, player};
 ghost use Rattle.target_body.specs.Pieces.{
   bucket_by,
   chosen_or_run,
@@ -29,11 +29,13 @@ ghost use Rattle.target_body.specs.Seen.{ended, seen_chooser, seen_run, seen_sta
 ghost use Rattle.target_body.specs.States.{with_decision};
 ghost use Rattle.target_body.specs.Work.{done, followed_by, unless_stopped};
 
+use crate::children::BucketContext;
 use crate::frames::{AtBucket, AtTask};
-use crate::run_context::{RunContext, place_of};
+use crate::run_context::RunContext;
 use crate::state::State;
 use crate::steps::{Ending, Step};
 use build_world::{EvalFault, PlacedElement};
+use element_texts::ElementContext;
 use msb_expand::Bucket;
 use msb_files::{FileView, Journal};
 use msb_values::{Copied, Item, List, Name, NoMemory, Scope, SharedItems};
@@ -43,12 +45,20 @@ use target_incremental::{Choice, decide};
 use target_texts::{Lists, returned_items, returns_of};
 use task_trait::CountedTools;
 
+/// A bucket of the target, and what is decided of it; of a target that takes its items one by one,
+/// also their type and the bucket's items. (How to build incrementally.)
+#[derive(Drop)]
+pub(crate) struct Piece {
+    pub(crate) bucket: Bucket,
+    pub(crate) choice: Choice,
+    pub(crate) items: Option<(Name, List<Item>)>,
+}
+
 impl State {
     /// Takes a bucket of the target, which sees the scope as the target found it. (MSBuild
     /// batching.)
     pub(crate) fn bucket<T: CountedTools>(
         &mut self,
-        alloc: Global,
         context: &RunContext<'_>,
         found: &Scope,
         bucket: Bucket,
@@ -62,11 +72,11 @@ impl State {
             (moment self.new journal.new (T.calls tools.new))) }
         ensures begun { BeginsWith (T.calls tools.old) (T.calls tools.new) }
     {
-        self.enter(alloc, found, &bucket)?;
-        match self.lists(alloc, &*context, &bucket, &*journal) {
-            Ok(lists) => self.piece(alloc, context, bucket, lists, tools, journal),
+        self.enter(context.alloc, found, &bucket)?;
+        match self.lists(&*context, &bucket, &*journal) {
+            Ok(lists) => self.piece(context, bucket, lists, tools, journal),
             Err(fault) => {
-                self.note_fault(alloc, &fault)?;
+                self.note_fault(context.alloc, &fault)?;
                 self.add_decision(Decision::Failed)?;
                 Ok(Step::Over(Ending::Faulted))
             }
@@ -76,7 +86,6 @@ impl State {
     // The lists of a target that has both Inputs and Outputs. (How to build incrementally.)
     fn lists<'x>(
         &'x self,
-        alloc: Global,
         context: &'x RunContext<'x>,
         bucket: &'x Bucket,
         journal: &'x Journal,
@@ -86,14 +95,13 @@ impl State {
             (seen_state self.entry.now journal.entry.now)) }
     {
         let view = FileView::of(&context.world.tree, journal);
-        let place = place_of(&view, context.project(), &self.scope);
+        let element_context = ElementContext::of_items(&view, context.project(), &self.scope);
         let target = PlacedElement::of(&context.target.at);
-        Lists::of(alloc, &place, bucket, &target)
+        Lists::of(context.alloc, &element_context, bucket, &target)
     }
 
     fn piece<T: CountedTools>(
         &mut self,
-        alloc: Global,
         context: &RunContext<'_>,
         bucket: Bucket,
         lists: Option<Lists>,
@@ -111,38 +119,47 @@ impl State {
     {
         match lists {
             Some(lists) => {
-                let choice = choice_of(alloc, context, &lists, journal)?;
-                self.run_bucket(alloc, context, bucket, choice, lists.items, tools, journal)
+                let choice = choice_of(context, &lists, journal)?;
+                let piece = Piece {
+                    bucket,
+                    choice,
+                    items: lists.items,
+                };
+                self.run_bucket(context, piece, tools, journal)
             }
-            None => self.run_bucket(alloc, context, bucket, Choice::Run, None, tools, journal),
+            None => {
+                let piece = Piece {
+                    bucket,
+                    choice: Choice::Run,
+                    items: None,
+                };
+                self.run_bucket(context, piece, tools, journal)
+            }
         }
     }
 
     fn run_bucket<T: CountedTools>(
         &mut self,
-        alloc: Global,
         context: &RunContext<'_>,
-        bucket: Bucket,
-        choice: Choice,
-        items: Option<(Name, List<Item>)>,
+        piece: Piece,
         tools: &mut T,
         journal: &mut Journal,
     ) -> Result<Step<AtBucket>, NoMemory>
         ensures plays { IfOk result (λ step. let run = seen_run context.now in
             Plays (bucket_frames run) (player context.now.id.now T.answer)
-            (λ s. followed_by (decided run bucket choice items s) (λ end. done (or_failed end)))
+            (λ s. followed_by (decided run piece.bucket piece.choice piece.items s)
+            (λ end. done (or_failed end)))
             (moment self.old journal.old (T.calls tools.old)) step
             (moment self.new journal.new (T.calls tools.new))) }
         ensures begun { BeginsWith (T.calls tools.old) (T.calls tools.new) }
     {
-        let step = self.treat(alloc, context, &choice, &items, tools, journal)?;
-        self.bucket_on(alloc, context, bucket, choice, items, step, journal)
+        let step = self.treat(context, &piece.choice, &piece.items, tools, journal)?;
+        self.after_children(context, piece, step, journal)
     }
 
     // The children under what is decided: where there is nothing to do they are passed over.
     fn treat<T: CountedTools>(
         &mut self,
-        alloc: Global,
         context: &RunContext<'_>,
         choice: &Choice,
         items: &Option<(Name, List<Item>)>,
@@ -155,12 +172,16 @@ impl State {
             step (moment self.new journal.new (T.calls tools.new))) }
         ensures begun { BeginsWith (T.calls tools.old) (T.calls tools.new) }
     {
+        let bucket_context = BucketContext {
+            run: *context,
+            choice,
+        };
         match choice {
-            Choice::Run | Choice::Skip => self.children(alloc, context, choice, 0, tools, journal),
+            Choice::Run | Choice::Skip => self.children(&bucket_context, 0, tools, journal),
             Choice::Nothing => Ok(Step::Over(Ending::Fine)),
             Choice::Part(old) => {
-                self.narrow(alloc, items, old)?;
-                self.children(alloc, context, choice, 0, tools, journal)
+                self.narrow(context.alloc, items, old)?;
+                self.children(&bucket_context, 0, tools, journal)
             }
         }
     }
@@ -178,43 +199,45 @@ impl State {
         ensures kept { OnOk result (self.new.segments ≡ self.old.segments) }
     {
         if let Some((kind, _)) = items {
-            let old = SharedItems::of(alloc, old.copy()?)?;
-            self.part = Some((kind.copy()?, old));
+            let mut scope = self.scope.copy()?;
+            scope
+                .items
+                .insert(kind.copy()?, SharedItems::of(alloc, old.copy()?)?)?;
+            self.task_scope = Some(scope);
         }
         Ok(())
     }
 
     // Goes on behind the children of a bucket.
-    pub(crate) fn bucket_on(
+    pub(crate) fn after_children(
         &mut self,
-        alloc: Global,
         context: &RunContext<'_>,
-        bucket: Bucket,
-        choice: Choice,
-        items: Option<(Name, List<Item>)>,
+        piece: Piece,
         step: Step<AtTask>,
         journal: &Journal,
     ) -> Result<Step<AtBucket>, NoMemory>
         ensures { (answer : List ℕ → ToolInput → ToolAnswer) (tools : List (List ℕ × ToolInput))
             → IfOk result (λ step_then. let run = seen_run context.now in
-            GoesOn (children_frames run choice) (bucket_frames run)
+            Continues (children_frames run piece.choice) (bucket_frames run)
             (player context.now.id.now answer)
             (λ end.
             followed_by
             (unless_stopped end
-            (λ s. done (map_ok (with_decision (word_of choice items)) (returned run bucket s))))
+            (λ s. done
+            (map_ok (with_decision (word_of piece.choice piece.items))
+            (returned run piece.bucket s))))
             (λ end. done (or_failed end))) step (moment self.old journal.now tools) step_then
             (moment self.new journal.now tools)) }
     {
         match step {
             Step::Over(ending) => {
-                let word = word_of(&choice, &items);
-                Ok(Step::Over(self.end_bucket(alloc, context, &bucket, word, ending, journal)?))
+                let word = word_of(&piece.choice, &piece.items);
+                Ok(Step::Over(self.end_bucket(context, &piece.bucket, word, ending, journal)?))
             }
             Step::Waits(task) => Ok(Step::Waits(AtBucket {
-                bucket,
-                choice,
-                items,
+                bucket: piece.bucket,
+                choice: piece.choice,
+                items: piece.items,
                 task,
             })),
         }
@@ -223,7 +246,6 @@ impl State {
     // What the bucket returns, unless the run stops in it, and the word for it.
     fn end_bucket(
         &mut self,
-        alloc: Global,
         context: &RunContext<'_>,
         bucket: &Bucket,
         word: Decision,
@@ -238,7 +260,7 @@ impl State {
         ensures kept { OnOk result (self.new.segments ≡ self.old.segments) }
     {
         match ending {
-            Ending::Fine => self.return_items(alloc, context, bucket, word, journal),
+            Ending::Fine => self.return_items(context, bucket, word, journal),
             Ending::Faulted | Ending::Failed => {
                 self.add_decision(Decision::Failed)?;
                 Ok(ending)
@@ -248,7 +270,6 @@ impl State {
 
     fn return_items(
         &mut self,
-        alloc: Global,
         context: &RunContext<'_>,
         bucket: &Bucket,
         word: Decision,
@@ -260,14 +281,14 @@ impl State {
             (returned (seen_run context.now) bucket.now (seen_state self.old journal.now)))) }
         ensures kept { OnOk result (self.new.segments ≡ self.old.segments) }
     {
-        match self.read_returned(alloc, &*context, &*bucket, &*journal) {
+        match self.read_returned(&*context, &*bucket, &*journal) {
             Ok(items) => {
-                self.items.append(alloc, items)?;
+                self.items.append(context.alloc, items)?;
                 self.add_decision(word)?;
                 Ok(Ending::Fine)
             }
             Err(fault) => {
-                self.note_fault(alloc, &fault)?;
+                self.note_fault(context.alloc, &fault)?;
                 self.add_decision(Decision::Failed)?;
                 Ok(Ending::Faulted)
             }
@@ -276,7 +297,6 @@ impl State {
 
     fn read_returned<'x>(
         &'x self,
-        alloc: Global,
         context: &'x RunContext<'x>,
         bucket: &'x Bucket,
         journal: &'x Journal,
@@ -287,21 +307,23 @@ impl State {
             (returns_of (seen_run context.entry.now).target)) }
     {
         let Some(written) = returns_of(context.target) else {
-            return Ok(List::new(alloc));
+            return Ok(List::new(context.alloc));
         };
         let view = FileView::of(&context.world.tree, journal);
-        let place = place_of(&view, context.project(), &self.scope);
+        let element_context = ElementContext::of_items(&view, context.project(), &self.scope);
         let target = PlacedElement::of(&context.target.at);
-        returned_items(alloc, &place, bucket, &target, &self.items, written)
+        returned_items(
+            context.alloc,
+            &element_context,
+            bucket,
+            &target,
+            &self.items,
+            written,
+        )
     }
 }
 
-fn choice_of(
-    alloc: Global,
-    context: &RunContext<'_>,
-    lists: &Lists,
-    journal: &Journal,
-) -> Result<Choice, NoMemory>
+fn choice_of(context: &RunContext<'_>, lists: &Lists, journal: &Journal) -> Result<Choice, NoMemory>
     ensures { IfOk result
         (λ choice. choice
         ≡ decision (record { files = context.now.world.now.tree.files; journal = journal.now })
@@ -311,7 +333,7 @@ fn choice_of(
     let view = FileView::of(&context.world.tree, journal);
     let mode = context.world.mode;
     decide(
-        alloc,
+        context.alloc,
         &view,
         &lists.inputs,
         &lists.outputs,

@@ -12,11 +12,13 @@ use msb_expand::{Bucket, Use, folder_of};
 use msb_files::FileView;
 use msb_values::{Pairs, Scope};
 use result_cache::RunRef;
+use std::alloc::Global;
 
 /// The run at hand: the world that it is part of, its name, and the element that is used of its
-/// target.
+/// target; and the allocator for all that it does.
 #[derive(Clone, Copy)]
 pub(crate) struct RunContext<'a> {
+    pub(crate) alloc: Global,
     pub(crate) world: &'a World,
     pub(crate) id: &'a RunRef,
     pub(crate) target: &'a UsedTarget,
@@ -56,20 +58,8 @@ impl<'a> RunContext<'a> {
     }
 }
 
-/// What a text of a project sees that stands in no bucket.
-pub(crate) fn place_of<'x>(
-    files: &'x FileView<'x>,
-    project: &'x str,
-    scope: &'x Scope,
-) -> ElementContext<'x, FileView<'x>>
-    ensures { seen_context result ≡ item_context (paths files.entry.now) project.entry.now
-        scope.entry.now }
-{
-    ElementContext::of_items(files, project, scope)
-}
-
 /// What a text of a task element sees in one of its buckets. (MSBuild batching.)
-pub(crate) fn place_in_bucket<'x>(
+pub(crate) fn context_in_bucket<'x>(
     files: &'x FileView<'x>,
     project: &'x str,
     scope: &'x Scope,

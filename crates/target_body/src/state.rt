@@ -1,5 +1,4 @@
-ghost use Rattle.std.specs.Prelude.{◌≡◌, ◌++◌, ◌∷◌, [], None, IfOk, OnOk, fold};
-ghost use Rattle.msb_values.specs.Changes.{applied};
+ghost use Rattle.std.specs.Prelude.{◌≡◌, ◌++◌, ◌∷◌, [], None, IfOk, OnOk, unwrap_or};
 ghost use Rattle.msb_values.specs.Pairs.{all_put};
 ghost use Rattle.msb_values.specs.declared.cause.Cause.TheVariants.{Memory};
 ghost use Rattle.msb_values.specs.declared.note.Note.TheVariants.{Fail};
@@ -9,15 +8,14 @@ ghost use Rattle.result_cache.specs.Journal.{Journal};
 ghost use Rattle.target_texts.specs.Answered.{Pushes};
 ghost use Rattle.target_texts.specs.Made.{Made};
 ghost use Rattle.target_body.specs.Seen.{call_segment, ended, seen_state};
-ghost use Rattle.target_body.specs.States.{begun, part_after, settled, taken, with_change};
+ghost use Rattle.target_body.specs.States.{begun, settled, taken};
 
-use crate::frames::typed_copy;
-use crate::part::part_after;
+use crate::scopes::{apply_all, apply_to_own};
 use crate::steps::Ending;
 use build_world::EvalFault;
 use msb_expand::Bucket;
 use msb_items::KeyedItems;
-use msb_values::{Cause, Change, Copied, List, Lists, Name, NoMemory, Note, Scope, SharedItems};
+use msb_values::{Cause, Change, Copied, List, Lists, NoMemory, Note, Scope};
 use result_cache::{Decision, RequestKey, RequestResult, Segment};
 use std::alloc::Global;
 use std::mem;
@@ -26,9 +24,9 @@ use std::mem;
 pub(crate) struct State {
     /// The scope of the bucket at hand.
     pub(crate) scope: Scope,
-    /// Where its tasks run on a part of a list, the type and the items that they see of it.
-    pub(crate) part: Option<(Name, SharedItems)>,
-    /// The changes of the task element at hand, which the scope has not yet.
+    /// The scope that its tasks see, where they run on a part of a list.
+    pub(crate) task_scope: Option<Scope>,
+    /// The changes of the task element at hand, which the scopes have not yet.
     pub(crate) unseen: List<Change>,
     /// How many bytes the run itself has written.
     pub(crate) written: u64,
@@ -46,7 +44,7 @@ impl Drop for State {
     fn drop(self) {
         let State {
             scope: _,
-            part: _,
+            task_scope: _,
             unseen: _,
             written: _,
             decisions: _,
@@ -67,7 +65,7 @@ impl State {
     {
         State {
             scope,
-            part: None,
+            task_scope: None,
             unseen: List::new(alloc),
             written: 0,
             decisions: List::new(alloc),
@@ -90,7 +88,7 @@ impl State {
             (self.new
             ≡ record self.old {
               scope = record found.now { items = all_put found.now.items bucket.now.lists };
-              part =
+              task_scope =
                   None;
               unseen = [];
             }) }
@@ -98,12 +96,22 @@ impl State {
         let mut scope = found.copy()?;
         put_lists(&mut scope.items, &bucket.lists)?;
         self.scope = scope;
-        self.part = None;
+        self.task_scope = None;
         self.unseen = List::new(alloc);
         Ok(())
     }
 
-    /// Changes of the task element at hand, which stay out of the scope until it is over.
+    /// The scope that the tasks of the bucket see.
+    pub(crate) fn task_scope(&self) -> &Scope
+        ensures { result.now ≡ unwrap_or self.entry.now.task_scope self.entry.now.scope }
+    {
+        match &self.task_scope {
+            Some(own) => own,
+            None => &self.scope,
+        }
+    }
+
+    /// Changes of the task element at hand, which stay out of the scopes until it is over.
     pub(crate) fn add_changes(&mut self, more: List<Change>) -> Result<(), NoMemory>
         ensures { OnOk result
             (self.new
@@ -144,11 +152,11 @@ impl State {
     pub(crate) fn note_fault(&mut self, alloc: Global, fault: &EvalFault) -> Result<(), NoMemory>
         ensures noted { OnOk result (self.new
             ≡ record self.old { notes = self.old.notes ++ Fail (fault_text fault.now) ∷ [] }) }
-        ensures told { OnOk result (fault.now.cause ≡ Memory → ⊥) }
+        ensures cause { OnOk result (fault.now.cause ≡ Memory → ⊥) }
     {
         match &fault.cause {
             Cause::Memory => Err(NoMemory),
-            _ => self.notes.push(Note::Fail(fault.shown(alloc)?)),
+            _ => self.notes.push(Note::Fail(fault.to_text(alloc)?)),
         }
     }
 
@@ -174,39 +182,15 @@ impl State {
         }
     }
 
-    /// The child at hand is over: the scope gets its changes.
+    /// The child at hand is over: the scopes get its changes.
     pub(crate) fn settle(&mut self, alloc: Global) -> Result<(), NoMemory>
         ensures settled { OnOk result ((journal : Journal)
             → seen_state self.new journal ≡ settled (seen_state self.old journal)) }
         ensures kept { OnOk result (self.new.segments ≡ self.old.segments) }
     {
         let unseen = mem::replace(&mut self.unseen, List::new(alloc));
-        self.see_all(alloc, unseen.as_slice())
-    }
-
-    fn see_all(&mut self, alloc: Global, changes: &[Change]) -> Result<(), NoMemory>
-        ensures seen { OnOk result ((journal : Journal)
-            → seen_state self.new journal ≡ fold with_change (seen_state self.old journal)
-            changes.now) }
-        ensures kept { OnOk result (self.new.segments ≡ self.old.segments) }
-    {
-        for change in changes {
-            self.see(alloc, change)?;
-        }
-        Ok(())
-    }
-
-    // A change is made in the scope, and in what tasks see of a list.
-    fn see(&mut self, alloc: Global, change: &Change) -> Result<(), NoMemory>
-        ensures { OnOk result
-            (self.new
-            ≡ record self.old {
-              scope = applied change.now self.old.scope;
-              part = part_after change.now self.old.part;
-            }) }
-    {
-        part_after(alloc, &mut self.part, change)?;
-        self.scope.apply(alloc, change)
+        apply_to_own(alloc, &mut self.task_scope, unseen.as_slice())?;
+        apply_all(alloc, &mut self.scope, unseen.as_slice())
     }
 
     /// What its record says.
@@ -219,7 +203,7 @@ impl State {
     {
         let State {
             scope: _,
-            part: _,
+            task_scope: _,
             unseen: _,
             written: _,
             decisions,
@@ -231,17 +215,18 @@ impl State {
         (decisions, items, changes, notes, segments)
     }
 
-    // Copies of the scope, and of what tasks see of a list.
-    fn copied_scope(&self) -> Result<(Scope, Option<(Name, SharedItems)>), NoMemory>
-        ensures scope { IfOk result (λ copies. copies.0 ≡ self.now.scope) }
-        ensures part { IfOk result (λ copies. copies.1 ≡ self.now.part) }
+    // A copy of the tasks' own scope, where they have one.
+    fn copy_task_scope(&self) -> Result<Option<Scope>, NoMemory>
+        ensures { IfOk result (λ copy. copy ≡ self.now.task_scope) }
     {
-        let scope = self.scope.copy()?;
-        Ok((scope, typed_copy(&self.part)?))
+        match &self.task_scope {
+            Some(own) => Ok(Some(own.copy()?)),
+            None => Ok(None),
+        }
     }
 
     // Copies of what was decided, and of the items and the changes.
-    fn copied_results(&self) -> Result<(List<Decision>, KeyedItems, List<Change>), NoMemory>
+    fn copy_results(&self) -> Result<(List<Decision>, KeyedItems, List<Change>), NoMemory>
         ensures decisions { IfOk result (λ copies. copies.0 ≡ self.now.decisions) }
         ensures items { IfOk result (λ copies. copies.1 ≡ self.now.items) }
         ensures changes { IfOk result (λ copies. copies.2 ≡ self.now.changes) }
@@ -252,7 +237,7 @@ impl State {
     }
 
     // Copies of the changes that the scope has not yet, of the notes and of the segments.
-    fn copied_lists(&self) -> Result<(List<Change>, List<Note>, List<Segment>), NoMemory>
+    fn copy_lists(&self) -> Result<(List<Change>, List<Note>, List<Segment>), NoMemory>
         ensures unseen { IfOk result (λ copies. copies.0 ≡ self.now.unseen) }
         ensures notes { IfOk result (λ copies. copies.1 ≡ self.now.notes) }
         ensures segments { IfOk result (λ copies. copies.2 ≡ self.now.segments) }
@@ -307,12 +292,12 @@ fn put_lists(lists: &mut Lists, more: &Lists) -> Result<(), NoMemory>
 
 impl Copied for State {
     fn copy(&self) -> Result<State, NoMemory> {
-        let (decisions, items, changes) = self.copied_results()?;
-        let (unseen, notes, segments) = self.copied_lists()?;
-        let (scope, part) = self.copied_scope()?;
+        let (decisions, items, changes) = self.copy_results()?;
+        let (unseen, notes, segments) = self.copy_lists()?;
+        let task_scope = self.copy_task_scope()?;
         Ok(State {
-            scope,
-            part,
+            scope: self.scope.copy()?,
+            task_scope,
             unseen,
             written: self.written,
             decisions,

@@ -1,3 +1,8 @@
+ghost use Rattle.std.specs.Prelude.{◌≡◌};
+ghost use Rattle.target_body.specs.Seen.{ended};
+ghost use Rattle.target_body.specs.States.{State};
+ghost use Rattle.target_body.specs.Tasks.{still_failed};
+
 /// How a part of a run ends.
 #[derive(Clone, Copy, Debug, PartialEq, Eq)]
 pub(crate) enum Ending {
@@ -7,6 +12,18 @@ pub(crate) enum Ending {
     Faulted,
     /// A task has failed, and stops the run.
     Failed,
+}
+
+impl Ending {
+    /// A run that has failed doesn't go on.
+    pub(crate) fn still_failed(self) -> Ending
+        ensures { (s : State) → ended result s ≡ still_failed (ended self s) }
+    {
+        match self {
+            Ending::Fine => Ending::Failed,
+            Ending::Faulted | Ending::Failed => self,
+        }
+    }
 }
 
 /// How far a part of a run has come. (MSBuild task.)

@@ -23,17 +23,17 @@ ghost use Rattle.target_body.specs.Left.{
   child_frames,
   inferred_unless,
 };
-ghost use Rattle.target_body.specs.Moments.{GoesOn, Plays, moment, player};
+ghost use Rattle.target_body.specs.Moments.{Continues, Plays, moment, player};
 ghost use Rattle.target_body.specs.Seen.{child_at, ended, seen_run, seen_state};
-ghost use Rattle.target_body.specs.States.{State as Now, place_in, settled, task_scope};
+ghost use Rattle.target_body.specs.States.{State as Now, context_in, settled};
 ghost use Rattle.target_body.specs.Tasks.{call, called, inferred, task, then_inferred};
 ghost use Rattle.target_body.specs.Work.{done, each_in_turn, followed_by, unless_stopped};
 
 use crate::calling::TaskCall;
+use crate::children::BucketContext;
 use crate::frames::{AtCall, AtTask};
 use crate::later::Buckets;
-use crate::part::{own_or, scope_of_part};
-use crate::run_context::{RunContext, place_of};
+use crate::run_context::RunContext;
 use crate::state::State;
 use crate::steps::{Ending, Step};
 use build_world::{EvalFault, PlacedElement};
@@ -73,47 +73,50 @@ impl<'a> TaskChild<'a> {
     }
 }
 
+/// The bucket of a task element that is at hand, and those that come later.
+#[derive(Drop)]
+pub(crate) struct TaskBuckets {
+    pub(crate) bucket: Bucket,
+    pub(crate) later: Buckets,
+}
+
 impl State {
     /// Takes a task element by what is decided of the target's bucket. (How to build
     /// incrementally.)
     pub(crate) fn task<T: CountedTools>(
         &mut self,
-        alloc: Global,
-        context: &RunContext<'_>,
+        context: &BucketContext<'_>,
         child: usize,
-        choice: &Choice,
         tools: &mut T,
         journal: &mut Journal,
     ) -> Result<Step<AtTask>, NoMemory>
-        ensures plays { IfOk result (λ step. let run = seen_run context.now in
-            Plays (child_frames run) (player context.now.id.now T.answer)
-            (λ s. followed_by (task run choice.now (child_at run child) s)
+        ensures plays { IfOk result (λ step. let run = seen_run context.now.run in
+            Plays (child_frames run) (player context.now.run.id.now T.answer)
+            (λ s. followed_by (task run context.now.choice.now (child_at run child) s)
             (λ end. done (map_ok settled end))) (moment self.old journal.old (T.calls tools.old))
             step (moment self.new journal.new (T.calls tools.new))) }
         ensures child { IfOk result (λ step. IsOfChild child step) }
         ensures begun { BeginsWith (T.calls tools.old) (T.calls tools.new) }
     {
-        match choice {
+        match context.choice {
             Choice::Run => self.call_in_buckets(
-                alloc,
-                &TaskChild::of(context, child, true),
+                &TaskChild::of(&context.run, child, true),
                 tools,
                 journal,
             ),
             Choice::Part(_) => {
-                self.call_in_buckets(alloc, &TaskChild::of(context, child, false), tools, journal)
+                self.call_in_buckets(&TaskChild::of(&context.run, child, false), tools, journal)
             }
             Choice::Skip => {
-                let ending = self.infer(alloc, &TaskChild::of(context, child, false), journal)?;
-                Ok(Step::Over(self.settle_after(alloc, ending)?))
+                let ending = self.infer(&TaskChild::of(&context.run, child, false), journal)?;
+                Ok(Step::Over(self.settle_after(context.run.alloc, ending)?))
             }
-            Choice::Nothing => Ok(Step::Over(self.settle_after(alloc, Ending::Fine)?)),
+            Choice::Nothing => Ok(Step::Over(self.settle_after(context.run.alloc, Ending::Fine)?)),
         }
     }
 
     fn call_in_buckets<T: CountedTools>(
         &mut self,
-        alloc: Global,
         at: &TaskChild<'_>,
         tools: &mut T,
         journal: &mut Journal,
@@ -129,14 +132,14 @@ impl State {
         ensures child { IfOk result (λ step. IsOfChild at.now.child step) }
         ensures begun { BeginsWith (T.calls tools.old) (T.calls tools.new) }
     {
-        match self.task_buckets(alloc, &*at, &*journal) {
+        match self.task_buckets(&*at, &*journal) {
             Ok(buckets) => {
                 let later = Buckets::of(buckets);
-                let step = self.calls(alloc, at, later, tools, journal)?;
-                self.child_on(alloc, at, step, journal)
+                let step = self.calls(at, later, tools, journal)?;
+                self.after_calls(at, step, journal)
             }
             Err(fault) => {
-                self.note_fault(alloc, &fault)?;
+                self.note_fault(at.context.alloc, &fault)?;
                 Ok(Step::Over(Ending::Faulted))
             }
         }
@@ -145,28 +148,28 @@ impl State {
     // The buckets of a task element, in the scope that tasks see. (MSBuild batching.)
     fn task_buckets<'x>(
         &'x self,
-        alloc: Global,
         at: &'x TaskChild<'x>,
         journal: &'x Journal,
     ) -> Result<List<Bucket>, EvalFault>
         ensures { GivesFault (λ buckets. buckets) result
             (task_buckets
-            (place_in (seen_run at.entry.now.context) (seen_state self.entry.now journal.entry.now)
-            (task_scope (seen_state self.entry.now journal.entry.now)))
+            (context_in (seen_run at.entry.now.context)
+            (seen_state self.entry.now journal.entry.now)
+            (seen_state self.entry.now journal.entry.now).task_scope)
             (seen_element at.entry.now.element)) }
     {
-        let Ok(own) = scope_of_part(&self.scope, &self.part) else {
-            return Err(EvalFault::memory(alloc));
-        };
         let view = FileView::of(&at.context.world.tree, journal);
-        let place = place_of(&view, at.context.project(), own_or(&own, &self.scope));
-        buckets_of(alloc, &place, &at.element)
+        let element_context = ElementContext::of_items(
+            &view,
+            at.context.project(),
+            self.task_scope(),
+        );
+        buckets_of(at.context.alloc, &element_context, &at.element)
     }
 
     // Calls the task in each of these buckets.
     fn calls<T: CountedTools>(
         &mut self,
-        alloc: Global,
         at: &TaskChild<'_>,
         later: Buckets,
         tools: &mut T,
@@ -190,7 +193,7 @@ impl State {
                 gives: at.gives,
                 bucket: &bucket,
             };
-            match self.call(alloc, &call, tools, journal)? {
+            match self.call(&call, tools, journal)? {
                 Step::Over(Ending::Fine) => {}
                 Step::Over(Ending::Faulted) => return Ok(Step::Over(Ending::Faulted)),
                 Step::Over(Ending::Failed) => return Ok(Step::Over(Ending::Failed)),
@@ -209,12 +212,10 @@ impl State {
     }
 
     // Goes on behind a call in a bucket.
-    pub(crate) fn calls_on<T: CountedTools>(
+    pub(crate) fn after_call<T: CountedTools>(
         &mut self,
-        alloc: Global,
         at: &TaskChild<'_>,
-        bucket: Bucket,
-        later: Buckets,
+        buckets: TaskBuckets,
         step: Step<AtCall>,
         tools: &mut T,
         journal: &mut Journal,
@@ -223,17 +224,18 @@ impl State {
         ensures goes { IfOk result
             (λ step_then. let run = seen_run at.now.context in let e = seen_element at.now.element
             in
-            GoesOn (call_frames run e at.now.gives bucket) (calls_frames run)
+            Continues (call_frames run e at.now.gives buckets.bucket) (calls_frames run)
             (player at.now.context.id.now T.answer)
-            (λ end. unless_stopped end (each_in_turn (call run e at.now.gives) later)) step
+            (λ end. unless_stopped end (each_in_turn (call run e at.now.gives) buckets.later)) step
             (moment self.old journal.old (T.calls tools.old)) step_then
             (moment self.new journal.new (T.calls tools.new))) }
         ensures task { IfOk result (λ step. IsOfTask at.now.child at.now.gives step) }
         ensures begun { BeginsWith (T.calls tools.old) (T.calls tools.new) }
     {
+        let TaskBuckets { bucket, later } = buckets;
         match step {
             Step::Over(ending) => match ending {
-                Ending::Fine => self.calls(alloc, at, later, tools, journal),
+                Ending::Fine => self.calls(at, later, tools, journal),
                 Ending::Faulted | Ending::Failed => Ok(Step::Over(ending)),
             },
             Step::Waits(call) => Ok(Step::Waits(AtTask {
@@ -247,9 +249,8 @@ impl State {
     }
 
     // Goes on behind the calls of an element.
-    pub(crate) fn child_on(
+    pub(crate) fn after_calls(
         &mut self,
-        alloc: Global,
         at: &TaskChild<'_>,
         step: Step<AtTask>,
         journal: &Journal,
@@ -260,7 +261,7 @@ impl State {
         ensures goes { (answer : List ℕ → ToolInput → ToolAnswer)
             (tools : List (List ℕ × ToolInput))
             → IfOk result (λ step_then. let run = seen_run at.now.context in
-            GoesOn (calls_frames run) (child_frames run) (player at.now.context.id.now answer)
+            Continues (calls_frames run) (child_frames run) (player at.now.context.id.now answer)
             (λ end.
             done
             (map_ok settled (inferred_unless at.now.gives run (seen_element at.now.element) end)))
@@ -270,8 +271,8 @@ impl State {
     {
         match step {
             Step::Over(ending) => {
-                let ending = self.infer_unless(alloc, at, ending, journal)?;
-                Ok(Step::Over(self.settle_after(alloc, ending)?))
+                let ending = self.infer_unless(at, ending, journal)?;
+                Ok(Step::Over(self.settle_after(at.context.alloc, ending)?))
             }
             Step::Waits(task) => Ok(Step::Waits(task)),
         }
@@ -281,7 +282,6 @@ impl State {
     // after one that stops the body.
     fn infer_unless(
         &mut self,
-        alloc: Global,
         at: &TaskChild<'_>,
         ending: Ending,
         journal: &Journal,
@@ -293,29 +293,24 @@ impl State {
         ensures kept { OnOk result (self.new.segments ≡ self.old.segments) }
     {
         match ending {
-            Ending::Fine if !at.gives => self.infer(alloc, at, journal),
+            Ending::Fine if !at.gives => self.infer(at, journal),
             Ending::Failed if !at.gives => {
-                self.infer(alloc, at, journal)?;
-                Ok(Ending::Failed)
+                let ending = self.infer(at, journal)?;
+                Ok(ending.still_failed())
             }
             _ => Ok(ending),
         }
     }
 
-    fn infer(
-        &mut self,
-        alloc: Global,
-        at: &TaskChild<'_>,
-        journal: &Journal,
-    ) -> Result<Ending, NoMemory>
+    fn infer(&mut self, at: &TaskChild<'_>, journal: &Journal) -> Result<Ending, NoMemory>
         ensures ended { IfOk result (λ ending. ended ending (seen_state self.new journal.now)
             ≡ inferred (seen_run at.now.context) (seen_element at.now.element)
             (seen_state self.old journal.now)) }
         ensures kept { OnOk result (self.new.segments ≡ self.old.segments) }
     {
-        let mut changes = List::new(alloc);
-        let end = push_inferred_in(alloc, &*at, &self.scope, &*journal, &mut changes);
-        self.take(alloc, changes, end)
+        let mut changes = List::new(at.context.alloc);
+        let end = push_inferred_in(&*at, &self.scope, &*journal, &mut changes);
+        self.take(at.context.alloc, changes, end)
     }
 
     /// A child is over, and unless it stops the run, the scope gets its changes.
@@ -337,17 +332,15 @@ impl State {
 
 fn buckets_of(
     alloc: Global,
-    place: &ElementContext<'_, FileView<'_>>,
+    context: &ElementContext<'_, FileView<'_>>,
     element: &PlacedElement<'_>,
 ) -> Result<List<Bucket>, EvalFault>
     ensures { GivesFault (λ buckets. buckets) result
-        (task_buckets (seen_context place.now) (seen_element element.now)) }
+        (task_buckets (seen_context context.now) (seen_element element.now)) }
 {
-    let Ok(task) = task_of(alloc, element) else {
-        return Err(EvalFault::memory(alloc));
-    };
+    let task = task_of(alloc, element)?;
     let task = TaskElement {
-        context: *place,
+        context: *context,
         element: *element,
         task: task.as_str(),
     };
@@ -356,7 +349,6 @@ fn buckets_of(
 
 // The Outputs of a task that is not called see the scope of the bucket.
 fn push_inferred_in<'x>(
-    alloc: Global,
     at: &'x TaskChild<'x>,
     scope: &'x Scope,
     journal: &'x Journal,
@@ -371,6 +363,6 @@ fn push_inferred_in<'x>(
         (seen_element at.entry.now.element)) }
 {
     let view = FileView::of(&at.context.world.tree, journal);
-    let place = place_of(&view, at.context.project(), scope);
-    push_inferred(alloc, &place, &at.element, changes)
+    let element_context = ElementContext::of_items(&view, at.context.project(), scope);
+    push_inferred(at.context.alloc, &element_context, &at.element, changes)
 }

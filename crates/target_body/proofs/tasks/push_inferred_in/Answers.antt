@@ -11,9 +11,9 @@ returns c =
     let view : View = record
     { files = c.args.at.now.context.world.now.tree.files; journal = c.args.journal.now } in
     subst
-    (λ (place : ElementContext). Pushes c.push_inferred.result c.args.changes.now
-    c.push_inferred.new.changes (inferred_at place (seen_element c.args.at.now.element)))
-    (c.place_of-place.ensures
+    (λ (context : ElementContext). Pushes c.push_inferred.result c.args.changes.now
+    c.push_inferred.new.changes (inferred_at context (seen_element c.args.at.now.element)))
+    (c.of_items-element_context.ensures
     ∙ ap (λ (view : View). item_context (paths view) c.project.result.now c.args.scope.now)
     c.of-view.ensures
     ∙ ap (λ (path : List ℕ). item_context (paths view) path c.args.scope.now) c.project.ensures)

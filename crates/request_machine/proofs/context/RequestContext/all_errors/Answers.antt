@@ -1,7 +1,5 @@
-use Rattle.std.proofs.Common.{◌≡◌, ◌++◌, map, false, Result, Ok, Err, OnOk, sym, ap, ◌∙◌, subst}
-use Rattle.std.specs.Result.{is_err}
+use Rattle.std.proofs.Common.{◌≡◌, ◌++◌, map, Err, sym, ap, ◌∙◌, subst}
 use Rattle.std.proofs.lemmas.Result.{err_from_is_err_and}
-use Rattle.msb_values.specs.declared.errors.NoMemory.{NoMemory}
 use Rattle.msb_values.specs.Caused.{UnlessMemory}
 use Rattle.msb_values.proofs.Causing.{unless}
 use Rattle.msb_elements.specs.View.{view}
@@ -12,10 +10,6 @@ use Rattle.request_machine.specs.Seen.{seen_project}
 use Rattle.request_machine.proofs.Errors.{read_more, read_fault}
 use Rattle.request_machine.proofs.Placing.{placed_at, placed_within}
 use Rattle.request_machine.proofs.context.RequestContext.all_errors.Goals as goal
-
-on_ok : {P : Type 0} (r : Result (Unit {0}) NoMemory) → false ≡ is_err r → OnOk r P → P
-on_ok (Ok done) h p = p
-on_ok (Err fault) h p = cc
 
 pub returns-in_err-more : goal.returns-in_err-more
 returns-in_err-more c =
@@ -46,7 +40,7 @@ loop-element-preserved c =
     let elements = c.args.elements.now in
     let i = c.loop-element.element-index in
     let e = c.element-item.result in
-    rw (on_ok c.add_all.result c.if-is_err.ensures.value c.add_all.ensures
+    rw (c.in_ok-add_all.ensures
     ∙ ap (λ more. c.loop-element.names ++ more) c.as_slice.ensures)
     (read_more of (map (at file) (map view elements)) i c.loop-element.names
     c.loop-element.invariant (at file (view e))

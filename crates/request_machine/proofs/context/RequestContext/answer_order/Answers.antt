@@ -16,7 +16,7 @@ returns-in-Stop c =
     c.in_ok-ask.ask
     ≡ Stop c.in-Stop.next_stop =
     ap (λ b. order_reply_of p m.key.now m.state.now m.journal.now b c.in_ok-ask.ask)
-    (sym c.failed.ensures) ∙ (sym c.in_ok-next.ensures ∙ c.in-Stop.is) in
+    (sym c.has_failed.ensures) ∙ (sym c.in_ok-next.ensures ∙ c.in-Stop.is) in
     stands_alike p m.key.now m.state.now m.journal.now tree (left c.args.order.now c.args.first)
     c.in-Stop.next_stop order c.loop-answer.invariant.same
     (stop_step p m.key.now m.state.now m.journal.now tree c.in_ok-ask.ask order c.in-Stop.next_stop

@@ -3,7 +3,7 @@ use Rattle.target_order.specs.Answers.{Fits}
 use Rattle.target_order.specs.AsksLeft.{asks_left}
 use Rattle.target_order.specs.Left.{left}
 use Rattle.request_machine.specs.Seen.{seen_project}
-use Rattle.request_machine.specs.NextStops.{Bodies}
+use Rattle.request_machine.specs.Worlds.{Bodies}
 use Rattle.request_machine.specs.Walk.{walk}
 use Rattle.request_machine.proofs.context.RequestContext.answer_order.Given as goal
 

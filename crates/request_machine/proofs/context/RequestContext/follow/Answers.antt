@@ -1,7 +1,7 @@
 use Rattle.std.proofs.Common.{◌≡◌, sym, ap, ◌∙◌}
 use Rattle.target_order.specs.Left.{left}
 use Rattle.request_machine.specs.Seen.{seen_project}
-use Rattle.request_machine.specs.NextStops.{Bodies}
+use Rattle.request_machine.specs.Worlds.{Bodies}
 use Rattle.request_machine.specs.Walk.{answer_of, or_failed, walk}
 use Rattle.request_machine.proofs.Followed.{run_fits, run_goes, run_ready}
 use Rattle.request_machine.proofs.context.RequestContext.follow.Goals as goal

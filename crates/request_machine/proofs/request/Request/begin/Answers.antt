@@ -4,7 +4,7 @@ use Rattle.build_scheduler.specs.Position.{used_between}
 use Rattle.build_scheduler.specs.declared.walker.Answer.TheVariants.{First}
 use Rattle.task_trait.specs.declared.tools.ToolAnswer.{ToolAnswer}
 use Rattle.task_trait.specs.declared.tools.ToolInput.{ToolInput}
-use Rattle.request_machine.specs.Answered.{GoesOn}
+use Rattle.request_machine.specs.Answered.{Advances}
 use Rattle.request_machine.specs.Positions.{position_of}
 use Rattle.request_machine.specs.Walk.{Site}
 use Rattle.request_machine.specs.Worlds.{world_of}
@@ -37,8 +37,8 @@ returns g c =
     let new = position_of calls there r.key r.journal r.runs begun.stage in
     record {
       kept = c.ask_first.ensures.kept;
-      goes = λ table. subst (λ p. GoesOn (world_of answer w) table p new First begun.ask) alike
-          (subst (λ (x : World Site ToolInput ToolAnswer). GoesOn x table
+      goes = λ table. subst (λ p. Advances (world_of answer w) table p new First begun.ask) alike
+          (subst (λ (x : World Site ToolInput ToolAnswer). Advances x table
           (position_of calls there r.key r.journal r.runs r.stage) new First begun.ask) (sym same)
           (first_goes answer calls there r.key table r.journal r.runs r.stage begun.stage unbegun
           e.stands begun.ask e.asks));

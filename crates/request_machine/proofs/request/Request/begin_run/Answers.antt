@@ -2,7 +2,7 @@ use Rattle.std.proofs.Common.{◌≡◌, [], ◌++◌, map, Some, refl, sym, ap,
 use Rattle.build_scheduler.specs.Position.{used_between}
 use Rattle.build_scheduler.specs.declared.walker.Answer.TheVariants.{Go}
 use Rattle.target_body.specs.Standings.{tool_use}
-use Rattle.request_machine.specs.Answered.{GoesOn, WantsRun}
+use Rattle.request_machine.specs.Answered.{Advances, WantsRun}
 use Rattle.request_machine.specs.Stages.{has_begun, instance_in}
 use Rattle.request_machine.specs.StoppedBodies.{HasMadeRun, IsMade}
 use Rattle.request_machine.specs.Positions.{place_of, position_of}
@@ -128,10 +128,11 @@ returns g c =
     record {
       goes = λ table.
           subst
-          (λ p. GoesOn (world_of answer w) table (position_of calls w key r.journal r.runs r.stage)
+          (λ p. Advances (world_of answer w) table
+          (position_of calls w key r.journal r.runs r.stage)
           p Go run_stop.ask) (sym position)
           (subst
-          (λ s. GoesOn (world_of answer w) table (position_of calls w key r.journal r.runs s)
+          (λ s. Advances (world_of answer w) table (position_of calls w key r.journal r.runs s)
           (position_of calls w key next r.runs (Visits n)) Go run_stop.ask) (sym visits.1)
           (made_goes answer calls w key v own table r.journal next r.runs n old new run_stop refl
           wanted

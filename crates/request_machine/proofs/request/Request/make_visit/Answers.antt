@@ -1,8 +1,8 @@
 use Rattle.std.proofs.Common.{subst}
 use Rattle.build_meaning.specs.SoFar.{nothing_yet}
 use Rattle.build_world.specs.Instances.{seen_instance}
-use Rattle.target_body.specs.Standings.{target_named}
-use Rattle.request_machine.specs.RunStops.{Steps}
+use Rattle.target_body.specs.States.{target_named}
+use Rattle.request_machine.specs.RunStops.{Stops}
 use Rattle.request_machine.specs.Worlds.{body_if}
 use Rattle.request_machine.proofs.request.Request.make_visit.Goals as goal
 
@@ -14,7 +14,7 @@ returns g c =
     record {
       stopped = record {
         steps = subst
-            (λ j. Steps g.T.CountedTools.answer g.T.CountedTools.calls w v.run target
+            (λ j. Stops g.T.CountedTools.answer g.T.CountedTools.calls w v.run target
             (body_if w v.run target v.state.scope j) nothing_yet j c.make.new.journal
             c.args.tools.now c.make.new.tools c.in_ok-run_stop.run_stop)
             c.in_ok-journal.ensures c.in_ok-run_stop.ensures.goes;

@@ -2,8 +2,9 @@ use Rattle.std.proofs.Common.{◌≡◌, ◌++◌, map, Some, refl, sym, ap, ◌
 use Rattle.build_scheduler.specs.Position.{used_between}
 use Rattle.build_scheduler.specs.declared.walker.Answer.TheVariants.{Results}
 use Rattle.build_world.specs.Instances.{seen_instance}
-use Rattle.target_body.specs.Standings.{target_named, tool_use}
-use Rattle.request_machine.specs.Answered.{GoesOn, WaitsFor}
+use Rattle.target_body.specs.Standings.{tool_use}
+use Rattle.target_body.specs.States.{target_named}
+use Rattle.request_machine.specs.Answered.{Advances, WaitsFor}
 use Rattle.request_machine.specs.Stages.{has_begun, instance_in}
 use Rattle.request_machine.specs.StoppedBodies.{HasResumedRun, IsResumed}
 use Rattle.request_machine.specs.Positions.{halt_at, place_of, position_of}
@@ -143,10 +144,11 @@ returns g c =
     c.replace-journal.ensures.after in
     record {
       goes = subst
-          (λ p. GoesOn (world_of answer w) table (position_of calls w key r.journal r.runs r.stage)
+          (λ p. Advances (world_of answer w) table
+          (position_of calls w key r.journal r.runs r.stage)
           p (Results results) run_stop.ask) (sym position)
           (subst
-          (λ s. GoesOn (world_of answer w) table (position_of calls w key r.journal r.runs s)
+          (λ s. Advances (world_of answer w) table (position_of calls w key r.journal r.runs s)
           (position_of calls w key next r.runs (Visits n)) (Results results) run_stop.ask)
           (sym visits.1)
           (results_go answer calls w key v own table r.journal next r.runs n old new run_stop refl

@@ -1,7 +1,7 @@
 use Rattle.std.proofs.Common.{◌≡◌, refl, sym, ap, ◌∙◌, subst}
 use Rattle.build_scheduler.specs.Position.{used_between}
 use Rattle.build_scheduler.specs.declared.walker.Answer.TheVariants.{Use}
-use Rattle.request_machine.specs.Answered.{GoesOn}
+use Rattle.request_machine.specs.Answered.{Advances}
 use Rattle.request_machine.specs.Positions.{place_of, position_of}
 use Rattle.request_machine.specs.Worlds.{world_of}
 use Rattle.request_machine.specs.Former.{IsVisitOf, place_seen}
@@ -59,7 +59,8 @@ returns g c =
     r.own_run in
     record {
       goes = subst
-          (λ p. GoesOn (world_of answer w) table (position_of calls w key r.journal r.runs r.stage)
+          (λ p. Advances (world_of answer w) table
+          (position_of calls w key r.journal r.runs r.stage)
           p Use a.ask) (sym position)
           (after_goes w key table r.journal r.runs answer calls r.stage new a r.own_run c.requires
           c.in_ok-step.ensures taken);

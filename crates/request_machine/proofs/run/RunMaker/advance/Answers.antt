@@ -2,8 +2,9 @@ use Rattle.std.proofs.Common.{◌≡◌, sym, ap, ◌∙◌, subst, IfSome}
 use Rattle.std.proofs.lemmas.Result.{IfOk-weaker}
 use Rattle.build_world.specs.Instances.{seen_instance}
 use Rattle.build_world.specs.declared.instance.Instance.{Instance as Made}
-use Rattle.target_body.specs.Standings.{Goes, body_in, standing_in, target_named}
-use Rattle.request_machine.specs.RunStops.{IsStep, Plays}
+use Rattle.target_body.specs.Standings.{Goes, body_in, standing_in}
+use Rattle.target_body.specs.States.{target_named}
+use Rattle.request_machine.specs.RunStops.{IsRunStop, Plays}
 use Rattle.request_machine.specs.Runs.{run_in}
 use Rattle.request_machine.proofs.RunsMade.{step_run}
 use Rattle.request_machine.proofs.Stopping.{all_begin, all_play, noted_uses}
@@ -36,7 +37,7 @@ returns g c =
     after (calls old) (calls new) ask (standing_in w id target then_body)))
     c.requires.run c.in_ok-ask.ensures.goes) in
     record {
-      goes = IfOk-weaker c.stop.result (IsStep run then_body then_noted ask)
+      goes = IfOk-weaker c.stop.result (IsRunStop run then_body then_noted ask)
           (λ run_stop. IfSome (target_named targets run.target)
           (λ target. Plays answer calls w run target (standing_in w run target body) results before
           after old new noted run_stop))
@@ -49,7 +50,7 @@ returns g c =
           c.stop.ensures;
       tools = all_begin answer w run (target_named targets run.target) body then_body results before
           after (calls old) (calls new) ask c.requires.target c.requires.fits goes;
-      run = IfOk-weaker c.stop.result (IsStep run then_body then_noted ask)
+      run = IfOk-weaker c.stop.result (IsRunStop run then_body then_noted ask)
           (λ run_stop. run_in run run_stop.at ≡ run)
           (λ run_stop is. step_run run then_body then_noted ask run_stop
           (c.advance.ensures.run ∙ c.requires.run) is) c.stop.ensures;

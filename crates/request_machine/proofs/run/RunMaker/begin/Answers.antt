@@ -2,8 +2,9 @@ use Rattle.std.proofs.Common.{IfSome}
 use Rattle.std.proofs.lemmas.Result.{IfOk-weaker}
 use Rattle.build_meaning.specs.SoFar.{nothing_yet}
 use Rattle.build_world.specs.Instances.{seen_instance}
-use Rattle.target_body.specs.Standings.{standing_in, target_named}
-use Rattle.request_machine.specs.RunStops.{Plays, Steps}
+use Rattle.target_body.specs.Standings.{standing_in}
+use Rattle.target_body.specs.States.{target_named}
+use Rattle.request_machine.specs.RunStops.{Plays, Stops}
 use Rattle.request_machine.specs.Worlds.{body_if}
 use Rattle.request_machine.proofs.RunsMade.{begins_fits, begins_steps}
 use Rattle.request_machine.proofs.run.RunMaker.begin.Goals as goal
@@ -41,7 +42,7 @@ returns-clause-goes g c =
     IfSome target
     (λ t. Plays answer calls w run t (standing_in w run t body) none before after old new noted
     run_stop))
-    (Steps answer calls w run target (body_if w run target scope before) nothing_yet before after
+    (Stops answer calls w run target (body_if w run target scope before) nothing_yet before after
     old new)
     (λ run_stop plays. begins_steps answer calls w run target scope body noted none before after old
     new

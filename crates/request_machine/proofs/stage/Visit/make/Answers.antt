@@ -15,8 +15,8 @@ use Rattle.std.proofs.Common.{
 use Rattle.std.proofs.lemmas.Result.{IfOk-weaker}
 use Rattle.build_meaning.specs.SoFar.{nothing_yet, recorded}
 use Rattle.build_world.specs.Instances.{seen_instance, seen_target}
-use Rattle.target_body.specs.Standings.{target_named}
-use Rattle.request_machine.specs.RunStops.{IsFinished, Steps}
+use Rattle.target_body.specs.States.{target_named}
+use Rattle.request_machine.specs.RunStops.{IsFinished, Stops}
 use Rattle.request_machine.specs.Runs.{run_in}
 use Rattle.request_machine.specs.Worlds.{body_if, nothing_made}
 use Rattle.target_body.proofs.Stepping.{begins_here}
@@ -44,7 +44,7 @@ returns-in-Some g c =
     record {
       goes = subst
           (λ run. IfOk c.begin.result (λ run_stop. let target = target_named targets run.target in
-          Steps answer calls w run target (body_if w run target scope before) nothing_yet before
+          Stops answer calls w run target (body_if w run target scope before) nothing_yet before
           after c.args.tools.now c.begin.new.tools run_stop)) same c.begin.ensures.goes;
       tools = c.begin.ensures.tools;
       run = subst (λ run. IfOk c.begin.result (λ run_stop. run_in run run_stop.at ≡ run)) same
@@ -69,7 +69,7 @@ returns g c =
     c.in_ok-run.ensures c.make_nothing.ensures in
     record {
       goes = IfOk-weaker c.make_nothing.result (IsFinished run noted (recorded nothing_made []))
-          (Steps answer calls w run target (body_if w run target v.state.scope journal)
+          (Stops answer calls w run target (body_if w run target v.state.scope journal)
           nothing_yet journal journal tools tools)
           (λ run_stop is. nothing_steps answer calls w run target v.state.scope noted journal tools
           run_stop absent c.new-in-None.ensures is) is;

@@ -1,8 +1,9 @@
 use Rattle.std.proofs.Common.{◌≡◌, IfOk, IfSome, IsSome, sym, ap, ◌∙◌, subst}
 use Rattle.std.proofs.lemmas.Result.{IfOk-weaker}
 use Rattle.build_world.specs.Instances.{seen_instance}
-use Rattle.target_body.specs.Standings.{Fits, standing_in, target_named}
-use Rattle.request_machine.specs.RunStops.{GoesOnFrom, IsWaiting, Plays}
+use Rattle.target_body.specs.Standings.{Fits, standing_in}
+use Rattle.target_body.specs.States.{target_named}
+use Rattle.request_machine.specs.RunStops.{Resumes, IsWaiting, Plays}
 use Rattle.request_machine.specs.Positions.{halt_at, halt_of, uses_in}
 use Rattle.request_machine.specs.Runs.{run_in}
 use Rattle.request_machine.proofs.RunsMade.{plays_on, waits_fits, waits_there}
@@ -68,12 +69,12 @@ returns g c =
           IfSome target
           (λ t. Plays answer calls w run t (standing_in w run t copy) results before after old new
           noted run_stop))
-          (λ run_stop. GoesOnFrom answer calls w run target (halt_at calls w run target v.at)
+          (λ run_stop. Resumes answer calls w run target (halt_at calls w run target v.at)
           results
           before after old new run_stop)
           (λ run_stop plays.
           subst
-          (λ at. GoesOnFrom answer calls w run target (halt_at calls w run target at) results
+          (λ at. Resumes answer calls w run target (halt_at calls w run target at) results
           before after old new run_stop) (sym c.in-Called.is)
           (plays_on answer calls w run target body noted results before after old new run_stop
           (subst

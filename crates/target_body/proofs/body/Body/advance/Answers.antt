@@ -26,9 +26,8 @@ use Rattle.target_body.specs.Standings.{
   run_with,
   standing_by,
   standing_in,
-  target_named,
 }
-use Rattle.target_body.specs.States.{Run}
+use Rattle.target_body.specs.States.{Run, target_named}
 use Rattle.target_body.specs.declared.body.Stand.{Stand}
 use Rattle.target_body.proofs.body.Body.advance.Goals as goal
 
@@ -47,8 +46,8 @@ unreachable-requires g c =
     c.in_default.is in
     cc (subst (λ (found : Option UsedTarget). IsSome found) none c.requires.target)
 
-pub go_on-requires : goal.go_on-requires
-go_on-requires g c =
+pub advance-requires : goal.advance-requires
+advance-requires g c =
     let w = c.args.world.now in
     let id = c.args.self.now.run in
     let named : target_named (seen_instance c.args.instance.now).targets id.target
@@ -76,8 +75,8 @@ returns-clause-goes g c =
     c.in-Some.is in
     let before : UsedTarget → Stand → Type 0 = λ target stand.
     Goes g.T.CountedTools.answer id (body_in w id target) (standing_on w id target stand)
-    c.args.results.now c.args.journal.now c.go_on.new.journal
-    (g.T.CountedTools.calls c.args.tools.now) (g.T.CountedTools.calls c.go_on.new.tools)
+    c.args.results.now c.args.journal.now c.advance.new.journal
+    (g.T.CountedTools.calls c.args.tools.now) (g.T.CountedTools.calls c.advance.new.tools)
     c.in_ok-ask.ask (standing_on w id target c.in_ok-ask.stand) in
     subst (λ (found : Option UsedTarget). IfSome found
     (λ target. before target c.args.self.now.stand)) (sym named)

@@ -24,6 +24,6 @@ returns-clause-plays g c =
     (λ end. done (or_failed end))
     (moment c.args.state.now c.args.journal.now (g.T.CountedTools.calls c.args.tools.now))
     (moment c.resume_children.new.self c.resume_children.new.journal tools)
-    (moment c.bucket_on.new.self c.resume_children.new.journal tools) c.in_ok-step.step
-    c.bucket_on.result c.in_ok-step.ensures.plays
-    (c.bucket_on.ensures g.T.CountedTools.answer tools)
+    (moment c.after_children.new.self c.resume_children.new.journal tools) c.in_ok-step.step
+    c.after_children.result c.in_ok-step.ensures.plays
+    (c.after_children.ensures g.T.CountedTools.answer tools)

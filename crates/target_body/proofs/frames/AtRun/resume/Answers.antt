@@ -18,9 +18,9 @@ returns-clause-plays g c =
     (moment c.args.state.now c.args.journal.now (g.T.CountedTools.calls c.args.tools.now))
     (moment c.resume_bucket.new.state c.resume_bucket.new.journal
     (g.T.CountedTools.calls c.resume_bucket.new.tools))
-    (moment c.buckets_on.new.self c.buckets_on.new.journal
-    (g.T.CountedTools.calls c.buckets_on.new.tools))
-    c.in_ok-step.step c.buckets_on.result c.in_ok-step.ensures.plays c.buckets_on.ensures.goes
+    (moment c.after_bucket.new.self c.after_bucket.new.journal
+    (g.T.CountedTools.calls c.after_bucket.new.tools))
+    c.in_ok-step.step c.after_bucket.result c.in_ok-step.ensures.plays c.after_bucket.ensures.goes
 
 pub returns-clause-begun : goal.returns-clause-begun
-returns-clause-begun g c = begins_on _ _ _ c.in_ok-step.ensures.begun c.buckets_on.ensures.begun
+returns-clause-begun g c = begins_on _ _ _ c.in_ok-step.ensures.begun c.after_bucket.ensures.begun

@@ -44,7 +44,7 @@ returns-in_ok-add_decision-in-Err-clause-plays g c =
     g.T.CountedTools.answer)
     (unless_stopped (or_failed (or_stop (state_at before) r))
     (λ found. each_in_turn part found (state_at before))) (done_at before))
-    (told c.in-Err.fault.cause c.in_ok-note_fault-in-Err.ensures.told c.in-Err.ensures)
+    (told c.in-Err.fault.cause c.in_ok-note_fault-in-Err.ensures.cause c.in-Err.ensures)
     ∙ faulted_so c.in-Err.fault c.args.journal.now tools c.args.self.now c.note_fault.new.self
     c.add_decision.new.self
     c.in_ok-note_fault-in-Err.ensures.noted c.in_ok-add_decision-in-Err.ensures

@@ -53,7 +53,7 @@ returns-in_ok-add_decision-in-Err-clause-plays g c =
     (ap (λ (r : Result (Option Lists) EvalFault). played p
     (followed_by (unless_stopped (or_stop (state_at begun) r) (chosen_or_run choose run bucket
     (state_at begun))) last) (done_at begun))
-    (told c.in-Err.fault.cause c.in_ok-note_fault-in-Err.ensures.told c.in-Err.ensures)
+    (told c.in-Err.fault.cause c.in_ok-note_fault-in-Err.ensures.cause c.in-Err.ensures)
     ∙ faulted_so c.in-Err.fault c.args.journal.now tools c.enter.new.self c.note_fault.new.self
     c.add_decision.new.self
     c.in_ok-note_fault-in-Err.ensures.noted c.in_ok-add_decision-in-Err.ensures)

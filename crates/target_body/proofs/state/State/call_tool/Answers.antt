@@ -13,19 +13,20 @@ use Rattle.target_body.proofs.state.State.call_tool.Goals as goal
 
 pub returns-clause-plays : goal.returns-clause-plays
 returns-clause-plays g c =
-    let run = seen_run c.args.call.now.context in
-    let e = seen_element c.args.call.now.element in
+    let run = seen_run c.args.named.call.context in
+    let e = seen_element c.args.named.call.element in
     let tools = g.T.CountedTools.calls c.call.new.self in
     let f : Now × TaskOutput → Work (Result Now Stopped) = λ x.
-    done (answered_to run e c.args.call.now.gives c.args.call.now.bucket.now c.args.on_error x)
+    done (answered_to run e c.args.named.call.gives c.args.named.call.bucket.now c.args.on_error x)
     in
-    tool_ends (player c.args.call.now.context.id.now g.T.CountedTools.answer) c.args.task.now f
+    tool_ends (player c.args.named.call.context.id.now g.T.CountedTools.answer)
+    c.args.named.task.now f
     c.args.input.now (Ok c.args.input.now) c.in_ok-output.output
     (moment c.args.self.now c.args.journal.now (g.T.CountedTools.calls c.args.tools.now))
     c.give.new.self c.give.new.journal tools c.in_ok-give.field-0
     refl
     (c.in_ok-output.ensures
-    ∙ ap (λ (a : ToolAnswer). foreign_output c.args.task.now c.args.self.now.written a)
+    ∙ ap (λ (a : ToolAnswer). foreign_output c.args.named.task.now c.args.self.now.written a)
     c.in_ok-answer.ensures.value)
     c.in_ok-answer.ensures.counted
     (c.in_ok-give.ensures g.T.CountedTools.answer tools)

@@ -26,9 +26,10 @@ use Rattle.target_body.proofs.state.State.child.Goals as goal
 pub returns-in_ok-settle_after-in-Group-clause-plays :
     goal.returns-in_ok-settle_after-in-Group-clause-plays
 returns-in_ok-settle_after-in-Group-clause-plays g c =
-    let run = seen_run c.args.context.now in
+    let run = seen_run c.args.context.now.run in
     let e : At = child_at run c.args.place in
-    child_ends (player c.args.context.now.id.now g.T.CountedTools.answer) run c.args.choice.now
+    child_ends (player c.args.context.now.run.id.now g.T.CountedTools.answer) run
+    c.args.context.now.choice.now
     group_element e c.args.self.now c.group.new.self c.settle_after.new.self
     c.args.journal.now (g.T.CountedTools.calls c.args.tools.now) c.in_ok-ending-in-Group.ending
     c.in_ok-settle_after-in-Group.field-0
@@ -44,9 +45,10 @@ returns-in_ok-settle_after-in-Group-clause-plays g c =
 pub returns-in_ok-settle_after-in-OnError-clause-plays :
     goal.returns-in_ok-settle_after-in-OnError-clause-plays
 returns-in_ok-settle_after-in-OnError-clause-plays g c =
-    let run = seen_run c.args.context.now in
+    let run = seen_run c.args.context.now.run in
     let e : At = child_at run c.args.place in
-    child_ends (player c.args.context.now.id.now g.T.CountedTools.answer) run c.args.choice.now
+    child_ends (player c.args.context.now.run.id.now g.T.CountedTools.answer) run
+    c.args.context.now.choice.now
     on_error_element e c.args.self.now c.args.self.now c.settle_after-in-OnError.new.self
     c.args.journal.now (g.T.CountedTools.calls c.args.tools.now) Fine
     c.in_ok-settle_after-in-OnError.field-0
@@ -58,7 +60,7 @@ returns-in_ok-settle_after-in-OnError-clause-plays g c =
 
 pub returns-in-Task-clause-plays : goal.returns-in-Task-clause-plays
 returns-in-Task-clause-plays g c =
-    let run = seen_run c.args.context.now in
+    let run = seen_run c.args.context.now.run in
     let e : At = child_at run c.args.place in
     let f : Result Now Stopped → Work (Result Now Stopped) = λ end. done (map_ok settled end) in
     let before : Moment = moment c.args.self.now c.args.journal.now
@@ -68,9 +70,11 @@ returns-in-Task-clause-plays g c =
     let named : kind_of (name_of e.node) ≡ task_element =
     ap (λ (e : At). kind_of (name_of e.node)) (sym c.child-element.ensures)
     ∙ ap (λ (name : List ℕ). kind_of name) (sym c.name.ensures) ∙ sym c.in-Task.ensures in
-    all_as (child_frames run) (player c.args.context.now.id.now g.T.CountedTools.answer)
-    (λ s. followed_by (task run c.args.choice.now e s) f) (child run c.args.choice.now e) before
+    all_as (child_frames run) (player c.args.context.now.run.id.now g.T.CountedTools.answer)
+    (λ s. followed_by (task run c.args.context.now.choice.now e s) f)
+    (child run c.args.context.now.choice.now e) before
     after c.task.result
     (ap
-    (λ (kind : TheKind). followed_by (child_by kind run c.args.choice.now e (state_at before))
+    (λ (kind : TheKind). followed_by
+    (child_by kind run c.args.context.now.choice.now e (state_at before))
     f) named) c.task.ensures.plays

@@ -18,8 +18,8 @@ use Rattle.target_body.proofs.state.State.children.Goals as goal
 
 pub returns-in-Over-Faulted-clause-plays : goal.returns-in-Over-Faulted-clause-plays
 returns-in-Over-Faulted-clause-plays g c =
-    let run = seen_run c.args.context.now in
-    let p = player c.args.context.now.id.now g.T.CountedTools.answer in
+    let run = seen_run c.args.context.now.run in
+    let p = player c.args.context.now.run.id.now g.T.CountedTools.answer in
     let place = c.loop-place.place in
     let now : Moment = moment c.loop-place.self c.loop-place.journal
     (g.T.CountedTools.calls c.loop-place.tools) in
@@ -33,20 +33,21 @@ returns-in-Over-Faulted-clause-plays g c =
           (children_in run.target.element.node) (at run.target.element.file),
     ) in
     sym c.loop-place.invariant.plays
-    ∙ one_child p run c.args.choice.now place (suc place) now after c.in_ok-child.field-0 refl
+    ∙ one_child p run c.args.context.now.choice.now place (suc place) now after
+    c.in_ok-child.field-0 refl
     within c.in_ok-child.ensures.plays
     ∙ ap
     (λ (step : Step AtTask). reached_then p (reached_by (child_frames run) step after)
     (λ end.
     unless_stopped end
-    (each_in_turn (child run c.args.choice.now)
+    (each_in_turn (child run c.args.context.now.choice.now)
     (drop (suc place) (children_of run.target.element)))))
     (c.in-Over-Faulted.is ∙ ap (λ (ending : Ending). Over ending) c.in-Over-Faulted.field-0-is)
 
 pub returns-in-Over-Failed-clause-plays : goal.returns-in-Over-Failed-clause-plays
 returns-in-Over-Failed-clause-plays g c =
-    let run = seen_run c.args.context.now in
-    let p = player c.args.context.now.id.now g.T.CountedTools.answer in
+    let run = seen_run c.args.context.now.run in
+    let p = player c.args.context.now.run.id.now g.T.CountedTools.answer in
     let place = c.loop-place.place in
     let now : Moment = moment c.loop-place.self c.loop-place.journal
     (g.T.CountedTools.calls c.loop-place.tools) in
@@ -60,20 +61,21 @@ returns-in-Over-Failed-clause-plays g c =
           (children_in run.target.element.node) (at run.target.element.file),
     ) in
     sym c.loop-place.invariant.plays
-    ∙ one_child p run c.args.choice.now place (suc place) now after c.in_ok-child.field-0 refl
+    ∙ one_child p run c.args.context.now.choice.now place (suc place) now after
+    c.in_ok-child.field-0 refl
     within c.in_ok-child.ensures.plays
     ∙ ap
     (λ (step : Step AtTask). reached_then p (reached_by (child_frames run) step after)
     (λ end.
     unless_stopped end
-    (each_in_turn (child run c.args.choice.now)
+    (each_in_turn (child run c.args.context.now.choice.now)
     (drop (suc place) (children_of run.target.element)))))
     (c.in-Over-Failed.is ∙ ap (λ (ending : Ending). Over ending) c.in-Over-Failed.field-0-is)
 
 pub returns-in-Waits-clause-plays : goal.returns-in-Waits-clause-plays
 returns-in-Waits-clause-plays g c =
-    let run = seen_run c.args.context.now in
-    let p = player c.args.context.now.id.now g.T.CountedTools.answer in
+    let run = seen_run c.args.context.now.run in
+    let p = player c.args.context.now.run.id.now g.T.CountedTools.answer in
     let place = c.loop-place.place in
     let now : Moment = moment c.loop-place.self c.loop-place.journal
     (g.T.CountedTools.calls c.loop-place.tools) in
@@ -87,15 +89,17 @@ returns-in-Waits-clause-plays g c =
           (children_in run.target.element.node) (at run.target.element.file),
     ) in
     sym c.loop-place.invariant.plays
-    ∙ one_child p run c.args.choice.now place (suc place) now after c.in_ok-child.field-0 refl
+    ∙ one_child p run c.args.context.now.choice.now place (suc place) now after
+    c.in_ok-child.field-0 refl
     within c.in_ok-child.ensures.plays
-    ∙ child_waits_here p run c.args.choice.now place c.in_ok-child.field-0 c.in-Waits.task after
+    ∙ child_waits_here p run c.args.context.now.choice.now place c.in_ok-child.field-0
+    c.in-Waits.task after
     c.in-Waits.is c.in_ok-child.ensures.child
 
 pub loop-place-preserved : goal.loop-place-preserved
 loop-place-preserved g c =
-    let run = seen_run c.args.context.now in
-    let p = player c.args.context.now.id.now g.T.CountedTools.answer in
+    let run = seen_run c.args.context.now.run in
+    let p = player c.args.context.now.run.id.now g.T.CountedTools.answer in
     let place = c.loop-place.place in
     let now : Moment = moment c.loop-place.self c.loop-place.journal
     (g.T.CountedTools.calls c.loop-place.tools) in
@@ -111,13 +115,14 @@ loop-place-preserved g c =
     record {
       plays =
           sym
-          (one_child p run c.args.choice.now place (place + 1) now after c.in_ok-child.field-0
+          (one_child p run c.args.context.now.choice.now place (place + 1) now after
+          c.in_ok-child.field-0
           (add-one place) within c.in_ok-child.ensures.plays
           ∙ ap
           (λ (step : Step AtTask). reached_then p (reached_by (child_frames run) step after)
           (λ end.
           unless_stopped end
-          (each_in_turn (child run c.args.choice.now)
+          (each_in_turn (child run c.args.context.now.choice.now)
           (drop (place + 1) (children_of run.target.element)))))
           (c.in-Over-Fine.is ∙ ap (λ (ending : Ending). Over ending) c.in-Over-Fine.field-0-is))
           ∙ c.loop-place.invariant.plays;
@@ -126,7 +131,7 @@ loop-place-preserved g c =
 
 pub returns-clause-plays : goal.returns-clause-plays
 returns-clause-plays g c =
-    let run = seen_run c.args.context.now in
+    let run = seen_run c.args.context.now.run in
     let elements = children_of run.target.element in
     let past : length elements ≤ c.loop-place.place = omega (
       arith,
@@ -136,7 +141,7 @@ returns-clause-plays g c =
           (children_in run.target.element.node) (at run.target.element.file),
     ) in
     sym c.loop-place.invariant.plays
-    ∙ none_left (player c.args.context.now.id.now g.T.CountedTools.answer)
-    (child run c.args.choice.now) (drop c.loop-place.place elements)
+    ∙ none_left (player c.args.context.now.run.id.now g.T.CountedTools.answer)
+    (child run c.args.context.now.choice.now) (drop c.loop-place.place elements)
     (moment c.loop-place.self c.loop-place.journal (g.T.CountedTools.calls c.loop-place.tools))
     (drop_all c.loop-place.place elements past)

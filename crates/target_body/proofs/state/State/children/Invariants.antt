@@ -13,12 +13,12 @@ invariant-loop-place g l =
     let now : Moment = moment l.self l.journal (g.T.CountedTools.calls l.tools) in
     let first : Moment = moment l.initial.self l.initial.journal
     (g.T.CountedTools.calls l.initial.tools) in
-    let part = child (seen_run l.context) l.choice in
-    let elements = children_of (seen_run l.context).target.element in
+    let part = child (seen_run l.context.run) l.context.choice.now in
+    let elements = children_of (seen_run l.context.run).target.element in
     record {
-      plays : played (player l.context.id.now g.T.CountedTools.answer)
+      plays : played (player l.context.run.id.now g.T.CountedTools.answer)
           (each_in_turn part (drop l.place elements) (state_at now)) (done_at now)
-          ≡ played (player l.context.id.now g.T.CountedTools.answer)
+          ≡ played (player l.context.run.id.now g.T.CountedTools.answer)
           (each_in_turn part (drop l.from elements) (state_at first)) (done_at first);
       begun : BeginsWith (g.T.CountedTools.calls l.initial.tools) (g.T.CountedTools.calls l.tools);
     }

@@ -10,17 +10,17 @@ use Rattle.target_body.proofs.state.State.resume_children.Goals as goal
 
 pub returns-clause-plays : goal.returns-clause-plays
 returns-clause-plays g c =
-    let run = seen_run c.args.context.now in
-    all_joined (child_frames run) (children_frames run c.args.choice.now)
-    (player c.args.context.now.id.now g.T.CountedTools.answer)
+    let run = seen_run c.args.context.now.run in
+    all_joined (child_frames run) (children_frames run c.args.context.now.choice.now)
+    (player c.args.context.now.run.id.now g.T.CountedTools.answer)
     (λ s. child_left run c.args.task s c.args.results c.args.journal.now)
     (λ end.
     unless_stopped end
-    (each_in_turn (child run c.args.choice.now)
+    (each_in_turn (child run c.args.context.now.choice.now)
     (drop (suc c.args.task.child) (children_of run.target.element))))
     (moment c.args.self.now c.args.journal.now (g.T.CountedTools.calls c.args.tools.now))
     (moment c.resume_task.new.state c.resume_task.new.journal
     (g.T.CountedTools.calls c.resume_task.new.tools))
-    (moment c.children_on.new.self c.children_on.new.journal
-    (g.T.CountedTools.calls c.children_on.new.tools))
-    c.in_ok-step.step c.children_on.result c.in_ok-step.ensures.plays c.children_on.ensures.goes
+    (moment c.after_child.new.self c.after_child.new.journal
+    (g.T.CountedTools.calls c.after_child.new.tools))
+    c.in_ok-step.step c.after_child.result c.in_ok-step.ensures.plays c.after_child.ensures.goes

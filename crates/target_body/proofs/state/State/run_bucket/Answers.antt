@@ -13,17 +13,18 @@ pub returns-clause-plays : goal.returns-clause-plays
 returns-clause-plays g c =
     let run = seen_run c.args.context.now in
     let tools = g.T.CountedTools.calls c.treat.new.tools in
-    all_nested (children_frames run c.args.choice) (bucket_frames run)
+    all_nested (children_frames run c.args.piece.choice) (bucket_frames run)
     (player c.args.context.now.id.now g.T.CountedTools.answer)
-    (treated run c.args.choice c.args.items)
+    (treated run c.args.piece.choice c.args.piece.items)
     (λ end.
     unless_stopped end
     (λ s.
     done
-    (map_ok (with_decision (word_of c.args.choice c.args.items))
-    (returned run c.args.bucket s)))) (λ end. done (or_failed end))
+    (map_ok (with_decision (word_of c.args.piece.choice c.args.piece.items))
+    (returned run c.args.piece.bucket s)))) (λ end. done (or_failed end))
     (moment c.args.self.now c.args.journal.now (g.T.CountedTools.calls c.args.tools.now))
     (moment c.treat.new.self c.treat.new.journal tools)
-    (moment c.bucket_on.new.self c.treat.new.journal tools) c.in_ok-step.step c.bucket_on.result
+    (moment c.after_children.new.self c.treat.new.journal tools) c.in_ok-step.step
+    c.after_children.result
     c.in_ok-step.ensures.plays
-    (c.bucket_on.ensures g.T.CountedTools.answer tools)
+    (c.after_children.ensures g.T.CountedTools.answer tools)

@@ -20,21 +20,22 @@ use Rattle.target_body.proofs.state.State.use_tool.Goals as goal
 
 pub returns-in-Ok-clause-plays : goal.returns-in-Ok-clause-plays
 returns-in-Ok-clause-plays g c =
-    let run = seen_run c.args.call.now.context in
-    let e = seen_element c.args.call.now.element in
+    let run = seen_run c.args.named.call.context in
+    let e = seen_element c.args.named.call.element in
     let before : Moment = moment c.args.self.now c.args.journal.now
     (g.T.CountedTools.calls c.args.tools.now) in
     let f : Now × TaskOutput → Work (Result Now Stopped) = λ x.
-    done (answered_to run e c.args.call.now.gives c.args.call.now.bucket.now c.args.on_error x)
+    done (answered_to run e c.args.named.call.gives c.args.named.call.bucket.now c.args.on_error x)
     in
-    all_as (call_frames run e c.args.call.now.gives c.args.call.now.bucket.now)
-    (player c.args.call.now.context.id.now g.T.CountedTools.answer)
-    (λ s. followed_by (tool c.args.task.now s (Ok c.in-Ok.input)) f)
-    (λ s. followed_by (not_built_in false run s c.args.task.now c.args.params) f)
+    all_as (call_frames run e c.args.named.call.gives c.args.named.call.bucket.now)
+    (player c.args.named.call.context.id.now g.T.CountedTools.answer)
+    (λ s. followed_by (tool c.args.named.task.now s (Ok c.in-Ok.input)) f)
+    (λ s. followed_by (not_built_in false run s c.args.named.task.now c.args.params) f)
     before
     (moment c.call_tool.new.self c.call_tool.new.journal
     (g.T.CountedTools.calls c.call_tool.new.tools)) c.call_tool.result
-    (ap (λ (r : Result ToolInput Failure). followed_by (tool c.args.task.now (state_at before) r) f)
+    (ap (λ (r : Result ToolInput Failure). followed_by
+    (tool c.args.named.task.now (state_at before) r) f)
     (ap
     (λ (folder : List ℕ). foreign_input folder
     (record { files = run.files; journal = c.args.journal.now }) c.args.params)
@@ -45,13 +46,14 @@ returns-in-Ok-clause-plays g c =
 
 pub returns-in_ok-give-in-Err-clause-plays : goal.returns-in_ok-give-in-Err-clause-plays
 returns-in_ok-give-in-Err-clause-plays g c =
-    let run = seen_run c.args.call.now.context in
-    let e = seen_element c.args.call.now.element in
+    let run = seen_run c.args.named.call.context in
+    let e = seen_element c.args.named.call.element in
     let tools = g.T.CountedTools.calls c.args.tools.now in
     let f : Now × TaskOutput → Work (Result Now Stopped) = λ x.
-    done (answered_to run e c.args.call.now.gives c.args.call.now.bucket.now c.args.on_error x)
+    done (answered_to run e c.args.named.call.gives c.args.named.call.bucket.now c.args.on_error x)
     in
-    tool_fails (player c.args.call.now.context.id.now g.T.CountedTools.answer) c.args.task.now f
+    tool_fails (player c.args.named.call.context.id.now g.T.CountedTools.answer)
+    c.args.named.task.now f
     c.in-Err.failure _ c.in_ok-output-in-Err.output
     (moment c.args.self.now c.args.journal.now tools)
     (moment c.give.new.self c.give.new.journal tools) c.in_ok-give-in-Err.field-0

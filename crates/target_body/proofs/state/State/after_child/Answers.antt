@@ -4,12 +4,13 @@ use Rattle.target_body.specs.Seen.{seen_run}
 use Rattle.target_body.specs.declared.steps.Ending.{Ending}
 use Rattle.target_body.specs.declared.steps.Step.TheVariants.{Over}
 use Rattle.target_body.proofs.ChildSteps.{child_waits_here, children_go_on}
-use Rattle.target_body.proofs.state.State.children_on.Goals as goal
+use Rattle.target_body.proofs.state.State.after_child.Goals as goal
 
 pub returns-in-Some-clause-goes : goal.returns-in-Some-clause-goes
 returns-in-Some-clause-goes g c =
-    children_go_on (player c.args.context.now.id.now g.T.CountedTools.answer)
-    (seen_run c.args.context.now) c.args.choice.now c.args.place c.in-Some.next c.args.step
+    children_go_on (player c.args.context.now.run.id.now g.T.CountedTools.answer)
+    (seen_run c.args.context.now.run) c.args.context.now.choice.now c.args.place c.in-Some.next
+    c.args.step
     (moment c.args.self.now c.args.journal.now (g.T.CountedTools.calls c.args.tools.now))
     (moment c.children.new.self c.children.new.journal
     (g.T.CountedTools.calls c.children.new.tools)) c.children.result
@@ -18,7 +19,8 @@ returns-in-Some-clause-goes g c =
 
 pub returns-in-Waits-clause-goes : goal.returns-in-Waits-clause-goes
 returns-in-Waits-clause-goes g c =
-    child_waits_here (player c.args.context.now.id.now g.T.CountedTools.answer)
-    (seen_run c.args.context.now) c.args.choice.now c.args.place c.args.step c.in-Waits.task
+    child_waits_here (player c.args.context.now.run.id.now g.T.CountedTools.answer)
+    (seen_run c.args.context.now.run) c.args.context.now.choice.now c.args.place c.args.step
+    c.in-Waits.task
     (moment c.args.self.now c.args.journal.now (g.T.CountedTools.calls c.args.tools.now))
     c.in-Waits.is c.requires

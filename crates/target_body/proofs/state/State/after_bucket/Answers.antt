@@ -1,6 +1,6 @@
 use Rattle.std.proofs.Common.{◌∙◌, IfOk, ap, sym, subst, refl}
 use Rattle.target_body.specs.Left.{bucket_frames, buckets_frames}
-use Rattle.target_body.specs.Moments.{GoesOn, Moment, moment, player}
+use Rattle.target_body.specs.Moments.{Continues, Moment, moment, player}
 use Rattle.target_body.specs.Pieces.{bucket_by}
 use Rattle.target_body.specs.Seen.{seen_chooser, seen_run}
 use Rattle.target_body.specs.Work.{each_in_turn, unless_stopped}
@@ -10,7 +10,7 @@ use Rattle.target_body.specs.declared.steps.Ending.{Ending}
 use Rattle.target_body.specs.declared.steps.Ending.TheVariants.{Faulted, Failed}
 use Rattle.target_body.specs.declared.steps.Step.{Step}
 use Rattle.target_body.specs.declared.steps.Step.TheVariants.{Over, Waits}
-use Rattle.target_body.proofs.state.State.buckets_on.Goals as goal
+use Rattle.target_body.proofs.state.State.after_bucket.Goals as goal
 
 pub returns-in-Over-Fine-clause-goes : goal.returns-in-Over-Fine-clause-goes
 returns-in-Over-Fine-clause-goes g c =
@@ -21,9 +21,10 @@ returns-in-Over-Fine-clause-goes g c =
     let after : Moment = moment c.buckets.new.self c.buckets.new.journal
     (g.T.CountedTools.calls c.buckets.new.tools) in
     let P : Step AtBucket → Type 0 = λ step. IfOk c.buckets.result
-    (λ step_then. GoesOn (bucket_frames run) (buckets_frames choose run)
+    (λ step_then. Continues (bucket_frames run) (buckets_frames choose run)
     (player c.args.context.now.id.now g.T.CountedTools.answer)
-    (λ end. unless_stopped end (each_in_turn (bucket_by choose run c.args.found) c.args.later))
+    (λ end. unless_stopped end
+    (each_in_turn (bucket_by choose run c.args.left.found) c.args.left.later))
     step m step_then after) in
     subst P
     (sym
@@ -37,9 +38,11 @@ returns-in-Over-Faulted-clause-goes g c =
     let m : Moment = moment c.args.self.now c.args.journal.now
     (g.T.CountedTools.calls c.args.tools.now) in
     let step_then : Step AtRun = Over Faulted in
-    let P : Step AtBucket → Type 0 = λ step. GoesOn (bucket_frames run) (buckets_frames choose run)
+    let P : Step AtBucket → Type 0 = λ step. Continues (bucket_frames run)
+    (buckets_frames choose run)
     (player c.args.context.now.id.now g.T.CountedTools.answer)
-    (λ end. unless_stopped end (each_in_turn (bucket_by choose run c.args.found) c.args.later))
+    (λ end. unless_stopped end
+    (each_in_turn (bucket_by choose run c.args.left.found) c.args.left.later))
     step m step_then m in
     subst P
     (sym
@@ -53,9 +56,11 @@ returns-in-Over-Failed-clause-goes g c =
     let m : Moment = moment c.args.self.now c.args.journal.now
     (g.T.CountedTools.calls c.args.tools.now) in
     let step_then : Step AtRun = Over Failed in
-    let P : Step AtBucket → Type 0 = λ step. GoesOn (bucket_frames run) (buckets_frames choose run)
+    let P : Step AtBucket → Type 0 = λ step. Continues (bucket_frames run)
+    (buckets_frames choose run)
     (player c.args.context.now.id.now g.T.CountedTools.answer)
-    (λ end. unless_stopped end (each_in_turn (bucket_by choose run c.args.found) c.args.later))
+    (λ end. unless_stopped end
+    (each_in_turn (bucket_by choose run c.args.left.found) c.args.left.later))
     step m step_then m in
     subst P
     (sym
@@ -69,9 +74,11 @@ returns-in-Waits-clause-goes g c =
     let m : Moment = moment c.args.self.now c.args.journal.now
     (g.T.CountedTools.calls c.args.tools.now) in
     let step_then : Step AtRun = Waits
-    (record { found = c.args.found; at = c.in-Waits.at; later = c.args.later }) in
-    let P : Step AtBucket → Type 0 = λ step. GoesOn (bucket_frames run) (buckets_frames choose run)
+    (record { found = c.args.left.found; at = c.in-Waits.at; later = c.args.left.later }) in
+    let P : Step AtBucket → Type 0 = λ step. Continues (bucket_frames run)
+    (buckets_frames choose run)
     (player c.args.context.now.id.now g.T.CountedTools.answer)
-    (λ end. unless_stopped end (each_in_turn (bucket_by choose run c.args.found) c.args.later))
+    (λ end. unless_stopped end
+    (each_in_turn (bucket_by choose run c.args.left.found) c.args.left.later))
     step m step_then m in
     subst P (sym c.in-Waits.is) refl

@@ -3,7 +3,7 @@ use Rattle.build_world.specs.Elements.{seen_element}
 use Rattle.target_body.specs.Moments.{moment, player}
 use Rattle.target_body.specs.Seen.{seen_run}
 use Rattle.target_body.proofs.Giving.{all_resumed}
-use Rattle.target_body.proofs.state.State.call_on.Goals as goal
+use Rattle.target_body.proofs.state.State.resume_call.Goals as goal
 
 pub returns : goal.returns
 returns c = λ answer tools.

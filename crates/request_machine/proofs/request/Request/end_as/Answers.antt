@@ -2,7 +2,7 @@ use Rattle.std.proofs.Common.{ap, ◌∙◌, subst, sym}
 use Rattle.request_machine.specs.Stages.{instance_in}
 use Rattle.request_machine.specs.Plain.{IsPlainProject}
 use Rattle.request_machine.proofs.Ending.{ended_own}
-use Rattle.request_machine.proofs.request.Request.ended_as.Goals as goal
+use Rattle.request_machine.proofs.request.Request.end_as.Goals as goal
 
 pub invariant_of-result : goal.invariant_of-result
 invariant_of-result g c =

@@ -6,7 +6,7 @@ use Rattle.target_body.specs.Seen.{seen_run}
 use Rattle.target_body.specs.declared.frames.AtTask.{AtTask}
 use Rattle.target_body.specs.declared.steps.Step.{Step}
 use Rattle.target_body.proofs.TaskSteps.{child_over, child_waits}
-use Rattle.target_body.proofs.state.State.child_on.Goals as goal
+use Rattle.target_body.proofs.state.State.after_calls.Goals as goal
 
 pub returns-in_ok-settle_after-in-Over-clause-goes :
     goal.returns-in_ok-settle_after-in-Over-clause-goes

@@ -4,11 +4,11 @@ use Rattle.request_machine.specs.Stages.{has_begun}
 use Rattle.request_machine.specs.Worlds.{world_of}
 use Rattle.request_machine.proofs.Ending.{ended_begun, ended_position}
 use Rattle.request_machine.proofs.WalksAnswered.{in_turn}
-use Rattle.request_machine.proofs.walk.WalkWalker.ended.Goals as goal
+use Rattle.request_machine.proofs.walk.WalkWalker.copy_end.Goals as goal
 
 pub invariant_of-result : goal.invariant_of-result
 invariant_of-result g c = record {
-  begun = ap has_begun c.in_ok-ended.ensures.stage ∙ ended_begun c.args.self.now.request.stage;
+  begun = ap has_begun c.in_ok-copy_end.ensures.stage ∙ ended_begun c.args.self.now.request.stage;
   fits = ∣ tt ∣₁;
   known = ∣ tt ∣₁;
 }
@@ -17,8 +17,8 @@ pub returns : goal.returns
 returns g c =
     let walk = c.args.self.now in
     let r = walk.request in
-    let n = c.in_ok-ended.field-0 in
-    let e = c.in_ok-ended.ensures in
+    let n = c.in_ok-copy_end.field-0 in
+    let e = c.in_ok-copy_end.ensures in
     record {
       world = ap (world_of g.T.CountedTools.answer) e.world;
       position =

@@ -6,7 +6,7 @@ use Rattle.target_body.specs.Standings.{Fits, Goes, standing_by}
 use Rattle.target_body.specs.Work.{body_of}
 use Rattle.target_body.specs.declared.body.Stand.{Stand}
 use Rattle.target_body.proofs.Telling.{all_gone, waits_fits}
-use Rattle.target_body.proofs.body.Stand.go_on.Goals as goal
+use Rattle.target_body.proofs.body.Stand.advance.Goals as goal
 
 pub returns-in-Begun-clause-goes : goal.returns-in-Begun-clause-goes
 returns-in-Begun-clause-goes g c =

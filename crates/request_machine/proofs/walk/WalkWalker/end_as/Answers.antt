@@ -4,12 +4,12 @@ use Rattle.request_machine.specs.Stages.{has_begun}
 use Rattle.request_machine.specs.Worlds.{world_of}
 use Rattle.request_machine.proofs.Ending.{ended_begun, ended_place_as}
 use Rattle.request_machine.proofs.WalksAnswered.{in_turn}
-use Rattle.request_machine.proofs.walk.WalkWalker.ended_as.Goals as goal
+use Rattle.request_machine.proofs.walk.WalkWalker.end_as.Goals as goal
 
 pub invariant_of-result : goal.invariant_of-result
 invariant_of-result g c = record {
   begun =
-      ap has_begun c.in_ok-ended_as.ensures.stage
+      ap has_begun c.in_ok-end_as.ensures.stage
       ∙ ended_begun c.args.end.now.request.stage;
   fits = ∣ tt ∣₁;
   known = ∣ tt ∣₁;
@@ -19,8 +19,8 @@ pub returns : goal.returns
 returns g c =
     let end = c.args.end.now in
     let r = end.request in
-    let n = c.in_ok-ended_as.field-0 in
-    let e = c.in_ok-ended_as.ensures in
+    let n = c.in_ok-end_as.field-0 in
+    let e = c.in_ok-end_as.ensures in
     record {
       world = ap (world_of g.T.CountedTools.answer) e.world;
       journal = e.journal;
