@@ -61,10 +61,8 @@ pub fn work_within(alloc: Global, options: &Options, tree: Tree) -> Result<Work,
 {
     match normal_path(alloc, "", options.project.as_str()) {
         Ok(path) => {
-            let key = InstanceKey {
-                path: Text::of(alloc, path.as_str())?,
-                globals: options.globals.copy()?,
-            };
+            let path = Text::of(alloc, path.as_str())?;
+            let key = InstanceKey::new(alloc, path, options.globals.copy()?)?;
             work_at(alloc, options, key, tree)
         }
         Err(NormalFault::Memory) => Err(NoMemory),

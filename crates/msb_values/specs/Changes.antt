@@ -1,5 +1,16 @@
 -- What a change makes of a scope. (MSBuild targets; PropertyGroup element; ItemGroup element.)
-use Rattle.std.specs.Prelude.{List, [], ◌++◌, Bool, not, map, filter, unwrap_or, if◌then◌else◌}
+use Rattle.std.specs.Prelude.{
+  List,
+  [],
+  ◌++◌,
+  fold,
+  Bool,
+  not,
+  map,
+  filter,
+  unwrap_or,
+  if◌then◌else◌,
+}
 use Rattle.std.specs.BTreeMap.{insert_entry}
 use Rattle.std.specs.Cmp.Lexicographic.{slice_cmp}
 use Rattle.std.specs.List.{list_any}
@@ -64,3 +75,7 @@ applied (RemoveItems kind texts) scope = with_lists scope
     (changed_at kind (without_named texts) scope.items)
 applied (SetMeta kind given pairs) scope = with_lists scope
     (changed_at kind (with_metadata_on given pairs) scope.items)
+
+-- a scope after some changes, one after another
+abbrev pub all_applied : List Change → Scope → Scope
+all_applied changes scope = fold (λ scope change. applied change scope) scope changes

@@ -6,7 +6,13 @@ ghost use Rattle.msb_values.specs.declared.change.Change.TheVariants.{
   SetMeta,
 };
 ghost use Rattle.msb_values.specs.Pairs.{changed_at};
-ghost use Rattle.msb_values.specs.Changes.{applied, with_added, without_named, with_metadata_on};
+ghost use Rattle.msb_values.specs.Changes.{
+  all_applied,
+  applied,
+  with_added,
+  without_named,
+  with_metadata_on,
+};
 
 use crate::changed_items::{items_except, with_metadata_on};
 use crate::name_map::NameMap;
@@ -31,6 +37,17 @@ impl Scope {
                 set_metadata(alloc, &mut self.items, kind, given, pairs)
             }
         }
+    }
+
+    /// Does what some changes say, one after another. Where there is no memory, nothing is said of
+    /// the scope.
+    pub fn apply_all(&mut self, alloc: Global, changes: &[Change]) -> Result<(), NoMemory>
+        ensures { OnOk result (self.new ≡ all_applied changes.now self.old) }
+    {
+        for change in changes {
+            self.apply(alloc, change)?;
+        }
+        Ok(())
     }
 }
 

@@ -17,6 +17,16 @@ pub struct InstanceKey {
 impl InstanceKey {
     ghost use Rattle.msb_values.specs.InstanceKeys.{key_text};
 
+    /// The key of a path and global properties. Its copies share the path.
+    pub fn new(alloc: Global, path: Text, globals: Pairs) -> Result<InstanceKey, NoMemory>
+        ensures { IfOk result (λ key. key ≡ record { path = path; globals = globals }) }
+    {
+        Ok(InstanceKey {
+            path: path.share(alloc)?,
+            globals,
+        })
+    }
+
     /// The path, and behind it the global properties in brackets if there are any, as a report
     /// names the instance.
     pub fn to_text(&self, alloc: Global) -> Result<Text, NoMemory>

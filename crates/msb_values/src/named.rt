@@ -185,7 +185,8 @@ fn insert<T: NamedValue + Drop>(
     name: Name,
     value: T,
 ) -> Result<(), NoMemory>
-    ensures ok { OnOk result (entries.new ≡ insert_entry (slice_cmp nat_cmp) entries.old name value) }
+    ensures ok { OnOk result
+        (entries.new ≡ insert_entry (slice_cmp nat_cmp) entries.old name value) }
     ensures err { OnErr result (entries.new ≡ entries.old) }
 {
     entries.make_mut()?.insert(name, value)

@@ -68,7 +68,9 @@ impl<T: Ord> Ord for Named<T> {
         (then_agrees (λ p q. refl) (λ p q. T.matches_partial_cmp p.1 q.1)) };
 
     ghost matches_eq = { let T' = T.cmp in
-        lists_ties (λ p q. ordering_then (slice_cmp nat_cmp p.0 q.0) (T' p.1 q.1)) (λ p q. both_tied _ _ (slice_cmp nat_cmp p.0 q.0) (T' p.1 q.1) (texts_ties p.0 q.0) (T.matches_eq p.1 q.1)) };
+        lists_ties (λ p q. ordering_then (slice_cmp nat_cmp p.0 q.0) (T' p.1 q.1))
+        (λ p q. both_tied _ _ (slice_cmp nat_cmp p.0 q.0) (T' p.1 q.1) (texts_ties p.0 q.0)
+        (T.matches_eq p.1 q.1)) };
 
     fn cmp(&self, other: &Named<T>) -> Ordering {
         self.entries().map.cmp(&other.entries().map)

@@ -30,7 +30,15 @@ use Rattle.target_body.specs.Left.{
   children_frames,
   waiting_task,
 }
-use Rattle.target_body.specs.Moments.{Continues, Moment, Plays, done_at, moment, reached_by, state_at}
+use Rattle.target_body.specs.Moments.{
+  Continues,
+  Moment,
+  Plays,
+  done_at,
+  moment,
+  reached_by,
+  state_at,
+}
 use Rattle.target_body.specs.Played.{Player, played, reached_then, waits}
 use Rattle.target_body.specs.Seen.{child_at, ended, seen_done, seen_state}
 use Rattle.target_body.specs.States.{Run, State, Stopped, settled}

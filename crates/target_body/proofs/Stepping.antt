@@ -19,7 +19,15 @@ use Rattle.task_trait.specs.Tools.{BeginsWith}
 use Rattle.target_body.specs.Work.{Work, followed_by, unless_stopped, each_in_turn}
 use Rattle.target_body.specs.States.{State, Stopped}
 use Rattle.target_body.specs.Played.{Player, Done, Reached, over, played, reached_then}
-use Rattle.target_body.specs.Moments.{Moment, Frames, Plays, Continues, reached_by, state_at, done_at}
+use Rattle.target_body.specs.Moments.{
+  Moment,
+  Frames,
+  Plays,
+  Continues,
+  reached_by,
+  state_at,
+  done_at,
+}
 use Rattle.target_body.specs.declared.steps.Step.{Step}
 use Rattle.target_body.proofs.Playing.{played_on, follow_on}
 

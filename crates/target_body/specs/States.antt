@@ -38,7 +38,7 @@ use Rattle.msb_files.specs.Views as views
 use Rattle.msb_expand.specs.declared.lens.Bucket.{Bucket}
 use Rattle.msb_items.specs.Items.{with_list}
 use Rattle.element_texts.specs.Contexts.{ElementContext, item_context}
-use Rattle.msb_items.specs.TargetGroups.{all_applied}
+use Rattle.msb_values.specs.Changes.{all_applied}
 use Rattle.task_trait.specs.Tools.{act_size}
 use Rattle.target_texts.specs.Made.{Made}
 
@@ -56,8 +56,8 @@ pub record Run : Type 0 where
 abbrev pub run_at : List File → RunId → UsedTarget → Run
 run_at files id target = record { files = files; instance = id.instance; target = target }
 
--- The scope of the bucket at hand, and the scope that its tasks see, which is another one where they
--- run on a part of a list. The changes of the task element at hand, which neither has yet. The
+-- The scope of the bucket at hand, and the scope that its tasks see, which is another one where
+-- they run on a part of a list. The changes of the task element at hand, which neither has yet. The
 -- journal of files, and the number of bytes that the run itself has written. Then what its record
 -- says: what was decided of each bucket, the items that are returned, the changes of the request's
 -- scope, and the notes.

@@ -137,8 +137,8 @@ impl State {
                 Ok(Ending::Fine)
             }
             Err(fault) => {
-                // Some of the group's changes may be made in the scope, at which nothing looks behind
-                // a fault.
+                // Some of the group's changes may be made in the scope, at which nothing looks
+                // behind a fault.
                 self.note_fault(context.alloc, &fault)?;
                 Ok(Ending::Faulted)
             }

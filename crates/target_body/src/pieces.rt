@@ -42,7 +42,7 @@ use msb_values::{Copied, Item, List, Name, NoMemory, Scope, SharedItems};
 use result_cache::Decision;
 use std::alloc::Global;
 use target_incremental::{Choice, decide};
-use target_texts::{Lists, returned_items, returns_of};
+use target_texts::{Lists, TargetElement, returns_of};
 use task_trait::CountedTools;
 
 /// A bucket of the target, and what is decided of it; of a target that takes its items one by one,
@@ -95,9 +95,11 @@ impl State {
             (seen_state self.entry.now journal.entry.now)) }
     {
         let view = FileView::of(&context.world.tree, journal);
-        let element_context = ElementContext::of_items(&view, context.project(), &self.scope);
-        let target = PlacedElement::of(&context.target.at);
-        Lists::of(context.alloc, &element_context, bucket, &target)
+        let target = TargetElement {
+            context: ElementContext::of_items(&view, context.project(), &self.scope),
+            element: PlacedElement::of(&context.target.at),
+        };
+        Lists::of(context.alloc, &target, bucket)
     }
 
     fn piece<T: CountedTools>(
@@ -310,16 +312,11 @@ impl State {
             return Ok(List::new(context.alloc));
         };
         let view = FileView::of(&context.world.tree, journal);
-        let element_context = ElementContext::of_items(&view, context.project(), &self.scope);
-        let target = PlacedElement::of(&context.target.at);
-        returned_items(
-            context.alloc,
-            &element_context,
-            bucket,
-            &target,
-            &self.items,
-            written,
-        )
+        let target = TargetElement {
+            context: ElementContext::of_items(&view, context.project(), &self.scope),
+            element: PlacedElement::of(&context.target.at),
+        };
+        target.returned_items(context.alloc, bucket, &self.items, written)
     }
 }
 

@@ -24,7 +24,7 @@ use msb_files::{FileView, Journal};
 use msb_values::{List, NoMemory, Scope};
 use result_cache::Decision;
 use std::alloc::Global;
-use target_texts::target_buckets;
+use target_texts::TargetElement;
 use task_trait::CountedTools;
 
 /// The buckets of a target that are still to come, and the scope as the target found it.
@@ -72,9 +72,11 @@ impl State {
             self.entry.now.scope) (seen_run context.entry.now).target.element) }
     {
         let view = FileView::of(&context.world.tree, journal);
-        let element_context = ElementContext::of_items(&view, context.project(), &self.scope);
-        let target = PlacedElement::of(&context.target.at);
-        target_buckets(context.alloc, &element_context, &target)
+        let target = TargetElement {
+            context: ElementContext::of_items(&view, context.project(), &self.scope),
+            element: PlacedElement::of(&context.target.at),
+        };
+        target.buckets(context.alloc)
     }
 
     fn buckets<T: CountedTools>(

@@ -1,25 +1,11 @@
 //! Changes of scopes. (PropertyGroup element; ItemGroup element; Output element.)
 
 ghost use Rattle.std.specs.Prelude.{◌≡◌, OnOk, unwrap_or};
-ghost use Rattle.msb_items.specs.TargetGroups.{all_applied};
+ghost use Rattle.msb_values.specs.Changes.{all_applied};
 ghost use Rattle.msb_values.specs.declared.scope.Scope.{Scope as Seen};
 
 use msb_values::{Change, NoMemory, Scope};
 use std::alloc::Global;
-
-/// Makes changes in a scope, one after another.
-pub(crate) fn apply_all(
-    alloc: Global,
-    scope: &mut Scope,
-    changes: &[Change],
-) -> Result<(), NoMemory>
-    ensures { OnOk result (scope.new ≡ all_applied changes.now scope.old) }
-{
-    for change in changes {
-        scope.apply(alloc, change)?;
-    }
-    Ok(())
-}
 
 /// Makes changes in a scope of one's own, where there is one; where there is none, the shared one
 /// stands for it.
@@ -33,7 +19,7 @@ pub(crate) fn apply_to_own(
         ≡ all_applied changes.now (unwrap_or own.old shared)) }
 {
     match own {
-        Some(own) => apply_all(alloc, own, changes),
+        Some(own) => own.apply_all(alloc, changes),
         None => Ok(()),
     }
 }

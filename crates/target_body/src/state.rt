@@ -10,7 +10,7 @@ ghost use Rattle.target_texts.specs.Made.{Made};
 ghost use Rattle.target_body.specs.Seen.{call_segment, ended, seen_state};
 ghost use Rattle.target_body.specs.States.{begun, settled, taken};
 
-use crate::scopes::{apply_all, apply_to_own};
+use crate::scopes::apply_to_own;
 use crate::steps::Ending;
 use build_world::EvalFault;
 use msb_expand::Bucket;
@@ -190,7 +190,7 @@ impl State {
     {
         let unseen = mem::replace(&mut self.unseen, List::new(alloc));
         apply_to_own(alloc, &mut self.task_scope, unseen.as_slice())?;
-        apply_all(alloc, &mut self.scope, unseen.as_slice())
+        self.scope.apply_all(alloc, unseen.as_slice())
     }
 
     /// What its record says.

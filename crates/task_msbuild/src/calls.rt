@@ -73,8 +73,8 @@ pub(crate) fn all_calls(
     calls_of(alloc, tree, &shared, lists.as_slice(), projects)
 }
 
-/// The requests of these projects, in order, with these global properties of all and these targets
-/// of each.
+/// The requests of those of these projects that are there, in order, with these global properties
+/// of all and these targets of each.
 fn calls_of(
     alloc: Global,
     tree: &Tree,
@@ -87,26 +87,11 @@ fn calls_of(
 {
     let mut calls = List::new(alloc);
     for project in projects {
-        push_project(&mut calls, tree, shared, lists, project)?;
+        if is_there(tree, project) {
+            push_calls(&mut calls, &instance(alloc, shared, project)?, lists)?;
+        }
     }
     Ok(calls)
-}
-
-/// Adds the requests of a project, if it is there.
-fn push_project(
-    calls: &mut List<RequestKey>,
-    tree: &Tree,
-    shared: &Pairs,
-    lists: &[List<Name>],
-    project: &Project,
-) -> Result<(), NoMemory>
-    ensures { OnOk result
-        (calls.new ≡ calls.old ++ calls_of tree.now.files shared.now lists.now project.now) }
-{
-    if !is_there(tree, project) {
-        return Ok(());
-    }
-    push_calls(calls, &instance(shared, project)?, lists)
 }
 
 fn push_calls(
@@ -127,15 +112,12 @@ fn push_calls(
 }
 
 /// The project with its global properties.
-fn instance(shared: &Pairs, project: &Project) -> Result<InstanceKey, NoMemory>
+fn instance(alloc: Global, shared: &Pairs, project: &Project) -> Result<InstanceKey, NoMemory>
     ensures { IfOk result (λ key. key ≡ instance_of shared.now project.now) }
 {
     let mut globals = shared.copy()?;
     put_all(&mut globals, project.item.additional.as_slice())?;
-    Ok(InstanceKey {
-        path: project.path.copy()?,
-        globals,
-    })
+    InstanceKey::new(alloc, project.path.copy()?, globals)
 }
 
 /// The global properties that all projects get.

@@ -1,0 +1,7 @@
+use Rattle.std.proofs.Common.{◌≡◌, drop}
+use Rattle.msb_values.specs.Changes.{all_applied}
+use Rattle.msb_values.proofs.scope.Scope.apply_all.Given as goal
+
+abbrev pub invariant-loop-change : goal.invariant-loop-change
+invariant-loop-change l = all_applied (drop l.change-index l.changes) l.self
+    ≡ all_applied l.changes l.initial.self
