@@ -1,5 +1,6 @@
 -- What stands in place of a part, as it is handed on.
 use Rattle.std.specs.Prelude.{◌≡◌, List, [], ◌∷◌, map, option_copied, Result, Ok, Err}
+use Rattle.msb_expand.specs.declared.tokens.Reference.{Reference}
 use Rattle.msb_expand.specs.declared.tokens.Token.{Token as Taken}
 use Rattle.msb_expand.specs.declared.tokens.Token.TheVariants.{Plain, Value, Kept, Items, Again}
 use Rattle.msb_expand.specs.declared.faults.ExpandFault.{ExpandFault}
@@ -18,12 +19,15 @@ use Rattle.msb_expand.specs.declared.faults.ExpandFault.TheVariants.{
 use Rattle.msb_expand.specs.CowTexts.{cow_text}
 use Rattle.msb_expand.specs.Tokens.{Token, written, referred, faulty, again_token}
 
+abbrev pub reference_token : Reference → Token
+reference_token reference = referred reference.kind.now reference.steps.now
+    (option_copied reference.separator)
+
 abbrev pub taken_tokens : Taken → List Token
 taken_tokens (Plain text) = written text.now ∷ []
 taken_tokens (Value text) = written (cow_text text) ∷ []
 taken_tokens (Kept text) = written text ∷ []
-taken_tokens (Items reference) = referred reference.kind.now reference.steps.now
-    (option_copied reference.separator) ∷ []
+taken_tokens (Items reference) = reference_token reference ∷ []
 taken_tokens (Again expr) = map again_token expr.parts
 
 -- what is handed on is these tokens, but for want of memory

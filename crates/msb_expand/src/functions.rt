@@ -75,81 +75,85 @@ pub(crate) fn call<'a>(
         (option_and_then (λ key. value_at key functions) (key_of name.now)) args.now
         (map seen_item items.entry.items)) }
 {
-    let function = Function::find(alloc, name)?;
+    let called = CalledFunction {
+        project,
+        name,
+        function: Function::find(alloc, name)?,
+    };
     match args {
-        [] => call_plain(alloc, project, name, function, items),
-        [of] => call_of(alloc, project, name, function, of, items),
-        [of, value] => call_with(alloc, project, name, function, of, value, items),
+        [] => called.call_plain(alloc, items),
+        [of] => called.call_of(alloc, of, items),
+        [of, value] => called.call_with(alloc, of, value, items),
         _ => Err(unknown(alloc, name)?),
     }
 }
 
-fn call_plain<'a>(
-    alloc: Global,
-    project: &str,
-    name: &str,
+/// The function that a step calls by its name, and the project that it is called in.
+#[derive(Clone, Copy)]
+struct CalledFunction<'n> {
+    /// The path of the project.
+    project: &'n str,
+    /// The name as the step writes it.
+    name: &'n str,
+    /// The function of this name.
     function: Option<Function>,
-    items: Vec<Seen<'a>>,
-) -> Result<Vec<Seen<'a>>, ExpandFault>
-    ensures { GivesAs (λ seen. map seen_item seen.items) result
-        (function_result project.now name.now function [] (map seen_item items.entry.items)) }
-{
-    match function {
-        Some(Function::Count) => Ok(count(alloc, items.len())?),
-        Some(Function::Distinct) => Ok(distinct(alloc, items)?),
-        Some(Function::Reverse) => Ok(reverse(items)),
-        Some(Function::ClearMetadata) => Ok(without_metadata(alloc, items)?),
-        _ => Err(unknown(alloc, name)?),
-    }
 }
 
-fn call_of<'a>(
-    alloc: Global,
-    project: &str,
-    name: &str,
-    function: Option<Function>,
-    of: &Text,
-    items: Vec<Seen<'a>>,
-) -> Result<Vec<Seen<'a>>, ExpandFault>
-    ensures { GivesAs (λ seen. map seen_item seen.items) result
-        (function_result project.now name.now function (of.now ∷ [])
-        (map seen_item items.entry.items)) }
-{
-    match function {
-        Some(Function::HasMetadata) => with_some(alloc, project, of.as_str(), items),
-        _ => Err(unknown(alloc, name)?),
+impl CalledFunction<'_> {
+    fn call_plain<'a>(
+        &self,
+        alloc: Global,
+        items: Vec<Seen<'a>>,
+    ) -> Result<Vec<Seen<'a>>, ExpandFault>
+        ensures { GivesAs (λ seen. map seen_item seen.items) result
+            (function_result self.now.project.now self.now.name.now self.now.function []
+            (map seen_item items.entry.items)) }
+    {
+        match self.function {
+            Some(Function::Count) => Ok(count(alloc, items.len())?),
+            Some(Function::Distinct) => Ok(distinct(alloc, items)?),
+            Some(Function::Reverse) => Ok(reverse(items)),
+            Some(Function::ClearMetadata) => Ok(without_metadata(alloc, items)?),
+            _ => Err(unknown(alloc, self.name)?),
+        }
     }
-}
 
-fn call_with<'a>(
-    alloc: Global,
-    project: &str,
-    name: &str,
-    function: Option<Function>,
-    of: &Text,
-    value: &Text,
-    items: Vec<Seen<'a>>,
-) -> Result<Vec<Seen<'a>>, ExpandFault>
-    ensures { GivesAs (λ seen. map seen_item seen.items) result
-        (function_result project.now name.now function (of.now ∷ value.now ∷ [])
-        (map seen_item items.entry.items)) }
-{
-    match function {
-        Some(Function::WithMetadataValue) => with_value(
-            alloc,
-            project,
-            of.as_str(),
-            value.as_str(),
-            items,
-        ),
-        Some(Function::AnyHaveMetadataValue) => any_truth(
-            alloc,
-            project,
-            of.as_str(),
-            value.as_str(),
-            &items,
-        ),
-        _ => Err(unknown(alloc, name)?),
+    fn call_of<'a>(
+        &self,
+        alloc: Global,
+        of: &Text,
+        items: Vec<Seen<'a>>,
+    ) -> Result<Vec<Seen<'a>>, ExpandFault>
+        ensures { GivesAs (λ seen. map seen_item seen.items) result
+            (function_result self.now.project.now self.now.name.now self.now.function
+            (of.now ∷ []) (map seen_item items.entry.items)) }
+    {
+        match self.function {
+            Some(Function::HasMetadata) => with_some(alloc, self.project, of.as_str(), items),
+            _ => Err(unknown(alloc, self.name)?),
+        }
+    }
+
+    fn call_with<'a>(
+        &self,
+        alloc: Global,
+        of: &Text,
+        value: &Text,
+        items: Vec<Seen<'a>>,
+    ) -> Result<Vec<Seen<'a>>, ExpandFault>
+        ensures { GivesAs (λ seen. map seen_item seen.items) result
+            (function_result self.now.project.now self.now.name.now self.now.function
+            (of.now ∷ value.now ∷ []) (map seen_item items.entry.items)) }
+    {
+        match self.function {
+            Some(Function::WithMetadataValue) => {
+                with_value(alloc, self.project, of.as_str(), value.as_str(), items)
+            }
+            Some(Function::AnyHaveMetadataValue) => {
+                any_truth(alloc, self.project, of.as_str(), value.as_str(), &items)
+            }
+            _ => Err(unknown(alloc, self.name)?),
+        }
     }
 }
 

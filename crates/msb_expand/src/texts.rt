@@ -1,18 +1,18 @@
-ghost use Rattle.std.specs.Prelude.{map, option_copied};
+ghost use Rattle.std.specs.Prelude.{map};
 ghost use Rattle.std.specs.List.{flat_map};
 ghost use Rattle.msb_expand.specs.Answers.{GivesAs};
 ghost use Rattle.msb_expand.specs.Limits.{grown, grown_by};
 ghost use Rattle.msb_expand.specs.Scenes.{scene_of};
-ghost use Rattle.msb_expand.specs.Taken.{taken_tokens};
-ghost use Rattle.msb_expand.specs.Tokens.{referred, again_token, part_tokens};
+ghost use Rattle.msb_expand.specs.Taken.{reference_token, taken_tokens};
+ghost use Rattle.msb_expand.specs.Tokens.{again_token, part_tokens};
 ghost use Rattle.msb_expand.specs.Values.{token_text};
 
 use crate::joins::push_joined;
 use crate::limits::grow;
 use crate::references::{quoted_value, referred_items};
-use crate::tokens::{Token, part_token};
+use crate::tokens::{Reference, Token, part_token};
 use crate::{ExpandFault, Lens};
-use msb_expression::{Part, Pieces, Steps};
+use msb_expression::Part;
 use msb_values::Text;
 use std::alloc::Global;
 
@@ -60,14 +60,7 @@ fn push_token(
         Token::Plain(plain) => grow(text, plain),
         Token::Value(value) => grow(text, value.as_str()),
         Token::Kept(kept) => grow(text, kept.as_str()),
-        Token::Items(reference) => push_items(
-            alloc,
-            text,
-            lens,
-            reference.kind,
-            reference.steps,
-            reference.separator,
-        ),
+        Token::Items(reference) => push_items(alloc, text, lens, reference),
         Token::Again(expr) => push_again(alloc, text, lens, expr.parts.as_slice()),
     }
 }
@@ -98,14 +91,9 @@ fn push_again_part(
         (grown text.old (token_text (scene_of lens.now) (again_token part.now))) }
 {
     match part {
-        Part::Items(kind, steps, separator) => push_items(
-            alloc,
-            text,
-            lens,
-            kind.as_str(),
-            steps,
-            separator.as_ref(),
-        ),
+        Part::Items(kind, steps, separator) => {
+            push_items(alloc, text, lens, &Reference::of(kind, steps, separator))
+        }
         Part::Plain(_) | Part::Prop(_) | Part::Func(_, _) | Part::Meta(_, _) => {
             grow(text, part.text(alloc)?.as_str())
         }
@@ -117,17 +105,13 @@ fn push_items(
     alloc: Global,
     text: &mut Text,
     lens: &Lens<'_>,
-    kind: &str,
-    steps: &Steps,
-    separator: Option<&Pieces>,
+    reference: &Reference<'_>,
 ) -> Result<(), ExpandFault>
     ensures { GivesAs (λ _. text.new) result
-        (grown text.old
-        (token_text (scene_of lens.now)
-        (referred kind.now steps.now (option_copied separator.entry)))) }
+        (grown text.old (token_text (scene_of lens.now) (reference_token reference.now))) }
 {
-    let items = referred_items(alloc, lens, kind, steps)?;
-    match separator {
+    let items = referred_items(alloc, lens, reference.kind, reference.steps)?;
+    match reference.separator {
         None => push_joined(text, &items, ";"),
         Some(pieces) => {
             let separator = quoted_value(alloc, lens, pieces)?;

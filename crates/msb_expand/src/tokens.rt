@@ -7,13 +7,14 @@ ghost use Rattle.msb_expand.specs.Scenes.{scene_of};
 ghost use Rattle.msb_expand.specs.Again.{read_again};
 ghost use Rattle.msb_expand.specs.Calls.{calls_text};
 ghost use Rattle.msb_expand.specs.Reserved.{property_of};
-ghost use Rattle.msb_expand.specs.Taken.{Takes};
+ghost use Rattle.msb_expand.specs.Taken.{Takes, reference_token};
 ghost use Rattle.msb_expand.specs.Tokens.{
   token_of,
   part_tokens,
   property_tokens,
   metadata_token,
   items_token,
+  referred,
 };
 
 use crate::batched::bucket_token;
@@ -31,6 +32,18 @@ pub(crate) struct Reference<'e> {
     pub(crate) kind: &'e str,
     pub(crate) steps: &'e Steps,
     pub(crate) separator: Option<&'e Pieces>,
+}
+
+impl<'e> Reference<'e> {
+    pub(crate) fn of(kind: &'e Word, steps: &'e Steps, separator: &'e Option<Pieces>) -> Self
+        ensures { reference_token result ≡ referred kind.now steps.now separator.now }
+    {
+        Reference {
+            kind: kind.as_str(),
+            steps,
+            separator: separator.as_ref(),
+        }
+    }
 }
 
 /// What stands in place of a part of an expression.
@@ -146,10 +159,8 @@ fn items_token<'a, 'e>(
     match lens.usage {
         Use::Properties => Ok(Token::Kept(reference_text(alloc, lens, kind, steps, separator)?)),
         Use::Definition => Err(ExpandFault::ItemsHere),
-        Use::Metadata | Use::All | Use::Batched => Ok(Token::Items(Reference {
-            kind: kind.as_str(),
-            steps,
-            separator: separator.as_ref(),
-        })),
+        Use::Metadata | Use::All | Use::Batched => {
+            Ok(Token::Items(Reference::of(kind, steps, separator)))
+        }
     }
 }

@@ -16,13 +16,13 @@ use Rattle.std.proofs.Common.{
   append-nil,
 }
 use Rattle.msb_laws.specs.Results.{map_ok}
-use Rattle.msb_values.specs.Changes.{applied}
+use Rattle.msb_values.specs.Changes.{all_applied, applied}
 use Rattle.msb_values.specs.declared.change.Change.{Change}
 use Rattle.msb_values.specs.declared.scope.Scope.{Scope}
 use Rattle.build_world.specs.Elements.{At}
 use Rattle.build_world.specs.declared.fault.EvalFault.{EvalFault}
 use Rattle.element_texts.specs.Contexts.{ElementContext, with_scope}
-use Rattle.msb_items.specs.TargetGroups.{all_applied, changes_of_each}
+use Rattle.msb_items.specs.TargetGroups.{changes_of_each}
 
 -- so far the elements have made these changes, the scope is this, and `all` is what all of them
 -- tell

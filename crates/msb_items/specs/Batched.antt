@@ -1,6 +1,5 @@
 -- The texts by which an element in a target is batched, and its buckets. (MSBuild batching)
 use Rattle.std.specs.Prelude.{
-  ℕ,
   List,
   [],
   ◌∷◌,

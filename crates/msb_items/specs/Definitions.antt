@@ -1,7 +1,6 @@
 -- The metadata that items of each type have by default. (Item definitions; ItemDefinitionGroup
 -- element)
 use Rattle.std.specs.Prelude.{
-  ℕ,
   List,
   [],
   ◌∷◌,

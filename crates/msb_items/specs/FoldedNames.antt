@@ -1,5 +1,5 @@
 -- Which items the code finds named.
-use Rattle.std.specs.Prelude.{ℕ, List, [], ◌∷◌, Bool, true, false, not, filter}
+use Rattle.std.specs.Prelude.{List, [], ◌∷◌, Bool, true, false, not, filter}
 use Rattle.msb_laws.specs.Words.{Text, Path}
 use Rattle.msb_values.specs.Escapes.{unescaped}
 use Rattle.msb_values.specs.declared.item.Item.{Item}

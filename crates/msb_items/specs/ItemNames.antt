@@ -1,6 +1,6 @@
 -- Which items the entries of an Exclude, a Remove or an Update name. (Item element; MSBuild items,
 -- wildcards to specify items)
-use Rattle.std.specs.Prelude.{ℕ, List, map, filter, Bool, Result}
+use Rattle.std.specs.Prelude.{List, map, filter, Bool, Result}
 use Rattle.msb_laws.specs.Results.{map_ok, all_ok}
 use Rattle.msb_laws.specs.Words.{Text, Path}
 use Rattle.msb_values.specs.Escapes.{unescaped}

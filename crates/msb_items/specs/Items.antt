@@ -1,7 +1,6 @@
 -- The items of each type, after each item element in turn. (MSBuild items; Item element; ItemGroup
 -- element)
 use Rattle.std.specs.Prelude.{
-  ℕ,
   List,
   [],
   ◌∷◌,

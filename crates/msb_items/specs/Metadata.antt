@@ -1,7 +1,6 @@
 -- The metadata that are written on an element: its attributes that are not reserved there, and then
 -- its children. (Item element; ItemMetadata element; MSBuild well-known item metadata)
 use Rattle.std.specs.Prelude.{
-  ℕ,
   List,
   [],
   ◌∷◌,

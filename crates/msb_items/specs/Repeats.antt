@@ -1,6 +1,6 @@
 -- Items that are there already. (Item element, KeepDuplicates; Target element,
 -- KeepDuplicateOutputs)
-use Rattle.std.specs.Prelude.{ℕ, List, [], ◌∷◌, ◌++◌, Bool, true, false, ◌&&◌}
+use Rattle.std.specs.Prelude.{List, [], ◌∷◌, ◌++◌, Bool, true, false, ◌&&◌}
 use Rattle.std.specs.List.{list_any}
 use Rattle.msb_laws.specs.Words.{Pairs}
 use Rattle.msb_values.specs.Equal.{same_pairs}

@@ -1,6 +1,6 @@
 -- Items of which some are replaced: those that an Update names, each by itself with its new
 -- metadata.
-use Rattle.std.specs.Prelude.{ℕ, List, [], ◌∷◌, Bool, true, false, Option, Some, None, Result, Ok}
+use Rattle.std.specs.Prelude.{List, [], ◌∷◌, Bool, true, false, Option, Some, None, Result, Ok}
 use Rattle.msb_laws.specs.Words.{Name}
 use Rattle.msb_laws.specs.Results.{map_ok, all_ok}
 use Rattle.msb_values.specs.declared.item.Item.{Item}

@@ -1,12 +1,10 @@
 -- The changes of a PropertyGroup or an ItemGroup in a target. (Target element; PropertyGroup
 -- element; ItemGroup element)
 use Rattle.std.specs.Prelude.{
-  ℕ,
   List,
   [],
   ◌∷◌,
   ◌++◌,
-  fold,
   Bool,
   true,
   false,
@@ -21,7 +19,7 @@ use Rattle.std.specs.Prelude.{
 use Rattle.std.specs.Str.{bytes_eq}
 use Rattle.msb_laws.specs.Words.{Text, Name}
 use Rattle.msb_laws.specs.Results.{and_then, map_ok}
-use Rattle.msb_values.specs.Changes.{applied}
+use Rattle.msb_values.specs.Changes.{all_applied}
 use Rattle.msb_values.specs.Keys.{key_of}
 use Rattle.msb_values.specs.declared.change.Change.{Change}
 use Rattle.msb_values.specs.declared.scope.Scope.{Scope}
@@ -40,10 +38,6 @@ use Rattle.element_texts.specs.Contexts.{
 use Rattle.msb_items.specs.Batched.{joined_ok, element_buckets}
 use Rattle.msb_items.specs.TargetItems.{item_changes}
 use Rattle.msb_items.specs.TargetProperties.{property_changes}
-
--- a scope after some changes, one after another
-abbrev pub all_applied : List Change → Scope → Scope
-all_applied changes scope = fold (λ scope change. applied change scope) scope changes
 
 -- a Label has no meaning
 abbrev pub ignored_attributes : List Text

@@ -1,7 +1,6 @@
 -- What an item element in a target changes, in one of its buckets. (ItemGroup element; Item
 -- element; MSBuild items)
 use Rattle.std.specs.Prelude.{
-  ℕ,
   List,
   [],
   ◌∷◌,

@@ -1,6 +1,6 @@
 -- What a property element in a target changes, in one of its buckets. (PropertyGroup element;
 -- MSBuild properties)
-use Rattle.std.specs.Prelude.{ℕ, List, [], ◌∷◌, Bool, true, false, Result, Ok, Err}
+use Rattle.std.specs.Prelude.{List, [], ◌∷◌, Bool, true, false, Result, Ok, Err}
 use Rattle.msb_laws.specs.Words.{Name}
 use Rattle.msb_laws.specs.Results.{and_then, map_ok}
 use Rattle.msb_values.specs.declared.cause.Cause.TheVariants.{Reserved}

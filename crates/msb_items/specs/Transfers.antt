@@ -1,5 +1,5 @@
 -- Which metadata of its source a copied item keeps. (Item element, KeepMetadata and RemoveMetadata)
-use Rattle.std.specs.Prelude.{ℕ, List, [], ◌∷◌, fold, Option, Some, None, Result, Ok, codes}
+use Rattle.std.specs.Prelude.{List, [], ◌∷◌, fold, Option, Some, None, Result, Ok, codes}
 use Rattle.std.specs.BTreeMap.{insert_entry}
 use Rattle.std.specs.Cmp.Lexicographic.{slice_cmp}
 use Rattle.std.specs.List.{filter_map}

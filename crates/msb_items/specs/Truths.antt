@@ -1,6 +1,6 @@
 -- A text that has to be a truth value, where it is not empty. (MSBuild conditions; Item element;
 -- Target element)
-use Rattle.std.specs.Prelude.{ℕ, List, [], ◌∷◌, Bool, Option, Some, None, Result, Ok, Err}
+use Rattle.std.specs.Prelude.{[], ◌∷◌, Bool, Option, Some, None, Result, Ok, Err}
 use Rattle.msb_laws.specs.Words.{Text}
 use Rattle.msb_values.specs.Truths.{truth_of}
 use Rattle.msb_values.specs.declared.cause.Cause.{Cause}

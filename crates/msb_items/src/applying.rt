@@ -2,6 +2,7 @@
 //! names.
 ghost use Rattle.std.specs.Prelude.{◌≡◌, OnOk, IfOk, map};
 ghost use Rattle.msb_values.specs.Changes.{
+  all_applied,
   applied,
   with_metadata_if,
   with_metadata_on,
@@ -9,7 +10,6 @@ ghost use Rattle.msb_values.specs.Changes.{
 };
 ghost use Rattle.msb_values.specs.Folded.{folded_bytes};
 ghost use Rattle.msb_values.specs.Pairs.{changed_at};
-ghost use Rattle.msb_items.specs.TargetGroups.{all_applied};
 
 use crate::item_names::keep_unless;
 use crate::pairs::put_all;

@@ -20,7 +20,7 @@ use crate::entries::{all_items, items_by};
 use crate::files::ListedFiles;
 use crate::item_names::{keep_unnamed, names_of};
 use crate::metadata::{Kind, metadata_on};
-use crate::updates::{replacements, with_metadata};
+use crate::updates::{GivenMetadata, replacements, with_metadata};
 use build_world::{EvalFault, PlacedElement};
 use element_texts::ElementContext;
 use file_store::File;
@@ -29,26 +29,36 @@ use msb_paths::Present;
 use msb_values::{Item, Name, Scope};
 use std::alloc::Global;
 
+/// An item element, and the item type that it names.
+#[derive(Clone, Copy)]
+pub(crate) struct ItemElement<'a> {
+    pub(crate) kind: &'a Name,
+    pub(crate) at: PlacedElement<'a>,
+}
+
 /// The items that an Include adds, less those that Exclude names, with the metadata that are
 /// written on the element. (MSBuild items.)
 pub(crate) fn new_items<F: Present>(
     alloc: Global,
     context: &ElementContext<'_, F>,
     paths: &SortedPaths<'_, File>,
-    kind: &Name,
-    element: &PlacedElement<'_>,
+    element: &ItemElement<'_>,
     include: &str,
 ) -> Result<Vec<Item>, EvalFault>
     requires { paths.now ≡ F.files context.now.files.now }
     ensures { GivesFault (λ items. items.items) result
-        (new_items (context_of F.files context.now) kind.now (seen_element element.now)
-        include.now) }
+        (new_items (context_of F.files context.now) element.now.kind.now
+        (seen_element element.now.at) include.now) }
 {
-    let items = items_at(alloc, context, paths, element, include)?;
-    let exclude = element.element.attribute("Exclude");
-    let items = apply_exclude(alloc, context, element, exclude, items)?;
-    let written = metadata_on(alloc, Kind::Item, element)?;
-    with_metadata(alloc, context, kind, &written, items)
+    let items = items_at(alloc, context, paths, &element.at, include)?;
+    let exclude = element.at.element.attribute("Exclude");
+    let items = apply_exclude(alloc, context, &element.at, exclude, items)?;
+    let written = metadata_on(alloc, Kind::Item, &element.at)?;
+    let given = GivenMetadata {
+        kind: element.kind,
+        written,
+    };
+    with_metadata(alloc, context, &given, items)
 }
 
 /// The items of the entries of an Include.
@@ -143,20 +153,25 @@ pub(crate) fn names_at<F: Present>(
 pub(crate) fn update_replacements<F: Present>(
     alloc: Global,
     context: &ElementContext<'_, F>,
-    kind: &Name,
-    element: &PlacedElement<'_>,
+    element: &ItemElement<'_>,
     update: &str,
 ) -> Result<Vec<Option<Item>>, EvalFault>
     ensures { GivesFault (λ replacements. replacements.items) result
-        (and_then (names_at (context_of F.files context.now) (seen_element element.now) update.now)
-        (λ names. replacements_of (context_of F.files context.now) kind.now
-        (metadata_on item_attributes (seen_element element.now))
-        (is_named context.now.project.now names) (list_of context.now.scope.now kind.now))) }
+        (and_then
+        (names_at (context_of F.files context.now) (seen_element element.now.at) update.now)
+        (λ names. replacements_of (context_of F.files context.now) element.now.kind.now
+        (metadata_on item_attributes (seen_element element.now.at))
+        (is_named context.now.project.now names)
+        (list_of context.now.scope.now element.now.kind.now))) }
 {
-    let names = names_at(alloc, context, element, update)?;
-    let written = metadata_on(alloc, Kind::Item, element)?;
-    let items = list_of(context.scope, kind);
-    replacements(alloc, context, kind, &names, &written, items)
+    let names = names_at(alloc, context, &element.at, update)?;
+    let written = metadata_on(alloc, Kind::Item, &element.at)?;
+    let given = GivenMetadata {
+        kind: element.kind,
+        written,
+    };
+    let items = list_of(context.scope, element.kind);
+    replacements(alloc, context, &given, &names, items)
 }
 
 fn list_of<'a>(scope: &'a Scope, kind: &Name) -> &'a [Item]

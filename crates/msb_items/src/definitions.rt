@@ -6,7 +6,6 @@ ghost use Rattle.msb_items.specs.Definitions.{
   all_defined,
   defined_by,
   definition_if,
-  no_item,
   with_default,
   with_default_written,
   with_defaults_written,
@@ -16,13 +15,13 @@ ghost use Rattle.msb_items.specs.Definitions.{
 ghost use Rattle.element_texts.specs.Contexts.{after_each};
 ghost use Rattle.msb_items.specs.Seen.{definitions_in, metadata_of};
 
-use crate::metadata::{Kind, WrittenMetadata, key_of, metadata_on};
+use crate::metadata::{Kind, WrittenMetadata, metadata_on, no_item};
 use crate::project_files::{ProjectFiles, project_path};
 use build_world::{EvalFault, LaidOut, Placed, PlacedElement};
 use element_texts::ElementContext;
 use file_store::Tree;
 use msb_paths::Present;
-use msb_values::{Copied, Item, Name, NoMemory, Pairs, Scope, Text};
+use msb_values::{Copied, Name, NoMemory, Pairs, Scope, Text};
 use std::alloc::Global;
 
 /// Takes the item definitions of a laid-out project in order, with the properties of the scope; or
@@ -141,16 +140,11 @@ fn define_kind<F: Present>(
         (definition_if true (definitions_in F.files source.now scope.old)
         (seen_element element.now)) }
 {
-    let Some(kind) = key_of(alloc, element.element.name())? else {
+    let Some(kind) = Name::look_up(alloc, element.element.name())? else {
         return Ok(());
     };
     let written = metadata_on(alloc, Kind::Definition, element)?;
-    let nothing = Item {
-        ident: Text::from(String::new(alloc)),
-        recursive: Text::from(String::new(alloc)),
-        meta: Pairs::new(alloc),
-    };
-    set_defaults(alloc, source, &kind, &nothing, &written, scope)
+    set_defaults(alloc, source, &kind, &written, scope)
 }
 
 /// Sets the defaults of a type, each of which sees those ahead of it.
@@ -158,36 +152,33 @@ fn set_defaults<F: Present>(
     alloc: Global,
     source: &ProjectFiles<'_, F>,
     kind: &Name,
-    nothing: &Item,
     written: &[WrittenMetadata<'_>],
     scope: &mut Scope,
 ) -> Result<(), EvalFault>
-    requires { nothing.now ≡ no_item }
     ensures { Changes result scope.new
         (with_defaults_written kind.now (definitions_in F.files source.now scope.old)
         (map metadata_of written.now)) }
 {
     for metadata in written {
-        set_default_written(alloc, source, kind, nothing, metadata, scope)?;
+        set_default_written(alloc, source, kind, metadata, scope)?;
     }
     Ok(())
 }
 
-fn set_default_written<'k, F: Present>(
+fn set_default_written<F: Present>(
     alloc: Global,
     source: &ProjectFiles<'_, F>,
-    kind: &'k Name,
-    nothing: &'k Item,
+    kind: &Name,
     metadata: &WrittenMetadata<'_>,
     scope: &mut Scope,
 ) -> Result<(), EvalFault>
-    requires { nothing.now ≡ no_item }
     ensures { Changes result scope.new
         (with_default_written kind.now (definitions_in F.files source.now scope.old)
         (metadata_of metadata.now)) }
 {
     let context = ElementContext::of_definitions(source.files, source.project, scope);
-    let value = metadata.value(alloc, &context.of_metadata(kind, nothing))?;
+    let nothing = no_item(alloc);
+    let value = metadata.value(alloc, &context.of_metadata(kind, &nothing))?;
     let Some((name, text)) = value else {
         return Ok(());
     };

@@ -22,9 +22,8 @@ ghost use Rattle.element_texts.specs.Contexts.{after_each, element_holds};
 ghost use Rattle.msb_items.specs.Replaced.{or_item, replaced};
 ghost use Rattle.msb_items.specs.Seen.{items_in};
 
-use crate::changes::{names_at, new_items, update_replacements};
+use crate::changes::{ItemElement, names_at, new_items, update_replacements};
 use crate::item_names::keep_unnamed;
-use crate::metadata::key_of;
 use crate::project_files::{ItemFiles, ProjectFiles, project_path};
 use build_world::{EvalFault, LaidOut, Placed, PlacedElement};
 use element_texts::ElementContext;
@@ -159,8 +158,14 @@ fn take_kind<F: Present>(
     ensures { Changes result scope.new
         (item_if true (items_in F.files source.now.source scope.old) (seen_element element.now)) }
 {
-    match key_of(alloc, element.element.name())? {
-        Some(kind) => change(alloc, source, element, &kind, scope),
+    match Name::look_up(alloc, element.element.name())? {
+        Some(kind) => {
+            let element = ItemElement {
+                kind: &kind,
+                at: *element,
+            };
+            change(alloc, source, &element, scope)
+        }
         None => Ok(()),
     }
 }
@@ -168,22 +173,21 @@ fn take_kind<F: Present>(
 fn change<F: Present>(
     alloc: Global,
     source: &ItemFiles<'_, F>,
-    element: &PlacedElement<'_>,
-    kind: &Name,
+    element: &ItemElement<'_>,
     scope: &mut Scope,
 ) -> Result<(), EvalFault>
     ensures { Changes result scope.new
-        (item_named (Some kind.now) (items_in F.files source.now.source scope.old)
-        (seen_element element.now)) }
+        (item_named (Some element.now.kind.now) (items_in F.files source.now.source scope.old)
+        (seen_element element.now.at)) }
 {
-    if let Some(written) = element.element.attribute("Include") {
-        return include(alloc, source, element, kind, written, scope);
+    if let Some(written) = element.at.element.attribute("Include") {
+        return include(alloc, source, element, written, scope);
     }
-    if let Some(written) = element.element.attribute("Remove") {
-        return remove(alloc, &source.source, element, kind, written, scope);
+    if let Some(written) = element.at.element.attribute("Remove") {
+        return remove(alloc, &source.source, element, written, scope);
     }
-    match element.element.attribute("Update") {
-        Some(written) => update(alloc, &source.source, element, kind, written, scope),
+    match element.at.element.attribute("Update") {
+        Some(written) => update(alloc, &source.source, element, written, scope),
         None => Ok(()),
     }
 }
@@ -191,36 +195,34 @@ fn change<F: Present>(
 fn include<F: Present>(
     alloc: Global,
     source: &ItemFiles<'_, F>,
-    element: &PlacedElement<'_>,
-    kind: &Name,
+    element: &ItemElement<'_>,
     written: &str,
     scope: &mut Scope,
 ) -> Result<(), EvalFault>
     ensures { Changes result scope.new
-        (included (items_in F.files source.now.source scope.old) kind.now (seen_element element.now)
-        written.now) }
+        (included (items_in F.files source.now.source scope.old) element.now.kind.now
+        (seen_element element.now.at) written.now) }
 {
     let context = ElementContext::of_items(source.source.files, source.source.project, scope);
-    let items = new_items(alloc, &context, &source.paths, kind, element, written)?;
-    append(alloc, scope, kind, items)?;
+    let items = new_items(alloc, &context, &source.paths, element, written)?;
+    append(alloc, scope, element.kind, items)?;
     Ok(())
 }
 
 fn remove<F: Present>(
     alloc: Global,
     source: &ProjectFiles<'_, F>,
-    element: &PlacedElement<'_>,
-    kind: &Name,
+    element: &ItemElement<'_>,
     written: &str,
     scope: &mut Scope,
 ) -> Result<(), EvalFault>
     ensures { Changes result scope.new
-        (removed (items_in F.files source.now scope.old) kind.now (seen_element element.now)
-        written.now) }
+        (removed (items_in F.files source.now scope.old) element.now.kind.now
+        (seen_element element.now.at) written.now) }
 {
     let context = ElementContext::of_items(source.files, source.project, scope);
-    let names = names_at(alloc, &context, element, written)?;
-    Ok(remove_named(alloc, source.project, &names, kind, scope)?)
+    let names = names_at(alloc, &context, &element.at, written)?;
+    Ok(remove_named(alloc, source.project, &names, element.kind, scope)?)
 }
 
 /// Takes the named items away from those of their type; the others move.
@@ -246,18 +248,17 @@ fn remove_named(
 fn update<F: Present>(
     alloc: Global,
     source: &ProjectFiles<'_, F>,
-    element: &PlacedElement<'_>,
-    kind: &Name,
+    element: &ItemElement<'_>,
     written: &str,
     scope: &mut Scope,
 ) -> Result<(), EvalFault>
     ensures { Changes result scope.new
-        (updated (items_in F.files source.now scope.old) kind.now (seen_element element.now)
-        written.now) }
+        (updated (items_in F.files source.now scope.old) element.now.kind.now
+        (seen_element element.now.at) written.now) }
 {
     let context = ElementContext::of_items(source.files, source.project, scope);
-    let replacements = update_replacements(alloc, &context, kind, element, written)?;
-    Ok(replace_in(alloc, scope, kind, replacements)?)
+    let replacements = update_replacements(alloc, &context, element, written)?;
+    Ok(replace_in(alloc, scope, element.kind, replacements)?)
 }
 
 /// Puts what replaces items of a type in their places; the others stay where they are.

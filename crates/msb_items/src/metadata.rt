@@ -1,4 +1,4 @@
-ghost use Rattle.std.specs.Prelude.{◌≡◌, ◌++◌, map, filter, not, Ok, IfOk, OnOk};
+ghost use Rattle.std.specs.Prelude.{◌≡◌, ◌++◌, map, filter, not, IfOk, OnOk};
 ghost use Rattle.msb_elements.specs.Nodes.{attributes_of};
 ghost use Rattle.msb_elements.specs.View.{view};
 ghost use Rattle.build_world.specs.Answers.{GivesFault};
@@ -6,7 +6,7 @@ ghost use Rattle.build_world.specs.Elements.{children_of, fault_of, seen_element
 ghost use Rattle.msb_values.specs.Caused.{UnlessMemory};
 ghost use Rattle.msb_values.specs.declared.cause.Cause.TheVariants.{Reserved};
 ghost use Rattle.msb_expand.specs.Computed.{is_computed, left_out};
-ghost use Rattle.msb_expand.specs.Keys.{key_of};
+ghost use Rattle.msb_items.specs.Definitions.{no_item};
 ghost use Rattle.msb_items.specs.Metadata.{
   attribute_metadata,
   child_metadata,
@@ -22,7 +22,7 @@ use build_world::{EvalFault, PlacedElement};
 use element_texts::ElementContext;
 use msb_expand::is_well_known;
 use msb_paths::Present;
-use msb_values::{Cause, Name, NameFault, NoMemory, Text};
+use msb_values::{Cause, Item, Name, NoMemory, Pairs, Text};
 use std::alloc::Global;
 
 /// What kind of element metadata are written on.
@@ -146,7 +146,7 @@ impl WrittenMetadata<'_> {
         if !context.holds(alloc, &self.element, self.condition)? {
             return Ok(None);
         }
-        match key_of(alloc, self.name)? {
+        match Name::look_up(alloc, self.name)? {
             Some(name) => self.value_of(alloc, context, name),
             None => Ok(None),
         }
@@ -170,14 +170,14 @@ impl WrittenMetadata<'_> {
     }
 }
 
-/// The name that a text is, as it is looked up; a text that is none names nothing.
-pub(crate) fn key_of(alloc: Global, text: &str) -> Result<Option<Name>, EvalFault>
-    ensures { GivesFault (λ key. key) result (Ok (key_of text.now)) }
+/// An item of which nothing but its type is seen.
+pub(crate) fn no_item(alloc: Global) -> Item
+    ensures { result ≡ no_item }
 {
-    match Name::read(alloc, text) {
-        Ok(name) => Ok(Some(name)),
-        Err(NameFault::BadName(_)) => Ok(None),
-        Err(NameFault::Memory) => Err(EvalFault::from(NoMemory)),
+    Item {
+        ident: Text::from(String::new(alloc)),
+        recursive: Text::from(String::new(alloc)),
+        meta: Pairs::new(alloc),
     }
 }
 

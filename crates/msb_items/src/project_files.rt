@@ -14,8 +14,8 @@ pub(crate) struct ProjectFiles<'a, F> {
     pub(crate) project: &'a str,
 }
 
-/// What does not change in the item pass: the files, and their paths in order, in which patterns are
-/// looked up.
+/// What does not change in the item pass: the files, and their paths in order, in which patterns
+/// are looked up.
 #[derive(Drop)]
 pub(crate) struct ItemFiles<'a, F: Present> {
     pub(crate) source: ProjectFiles<'a, F>,

@@ -2,6 +2,7 @@ ghost use Rattle.std.specs.Prelude.{◌≡◌, ◌++◌, true, Some, OnOk, IfOk,
 ghost use Rattle.msb_elements.specs.View.{view as node_of};
 ghost use Rattle.msb_files.specs.Views.{paths};
 ghost use Rattle.msb_laws.specs.Results.{map_ok};
+ghost use Rattle.msb_values.specs.Changes.{all_applied};
 ghost use Rattle.build_world.specs.Answers.{GivesFault};
 ghost use Rattle.build_world.specs.Elements.{at, seen_element};
 ghost use Rattle.msb_items.specs.Batched.{joined_ok};
@@ -9,7 +10,6 @@ ghost use Rattle.element_texts.specs.Contexts.{in_bucket, item_context};
 ghost use Rattle.element_texts.specs.Seen.{context_of};
 ghost use Rattle.msb_items.specs.Seen.{items_in};
 ghost use Rattle.msb_items.specs.TargetGroups.{
-  all_applied,
   changes_in,
   changes_named,
   element_changes,
@@ -21,7 +21,6 @@ use crate::applying::apply_all;
 use crate::batched::element_buckets;
 use crate::files::ListedFiles;
 use crate::group::Group;
-use crate::metadata::key_of;
 use crate::project_files::ProjectFiles;
 use crate::target_items::item_change;
 use crate::target_properties::property_change;
@@ -32,6 +31,15 @@ use msb_expand::{Bucket, Lens};
 use msb_files::FileView;
 use msb_values::{Change, Copied, List, Name, NoMemory, Scope};
 use std::alloc::Global;
+
+/// An element that stands in a group in a target: the group, and the name of the element, which is
+/// a property's or an item type.
+#[derive(Clone, Copy)]
+struct GroupElement<'a> {
+    group: Group,
+    name: &'a Name,
+    at: PlacedElement<'a>,
+}
 
 /// What a PropertyGroup or an ItemGroup in a target changes, or its first fault, which is told in
 /// the lens's file.
@@ -145,8 +153,15 @@ fn element_changes<F: ListedFiles>(
     ensures { GivesFault (λ changes. changes) result
         (element_changes group (context_of F.files context.now) (seen_element element.now)) }
 {
-    match key_of(alloc, element.element.name())? {
-        Some(name) => named_changes(alloc, context, group, &name, element),
+    match Name::look_up(alloc, element.element.name())? {
+        Some(name) => {
+            let element = GroupElement {
+                group,
+                name: &name,
+                at: *element,
+            };
+            named_changes(alloc, context, &element)
+        }
         None => Ok(List::new(alloc)),
     }
 }
@@ -154,42 +169,33 @@ fn element_changes<F: ListedFiles>(
 fn named_changes<F: ListedFiles>(
     alloc: Global,
     context: &ElementContext<'_, F>,
-    group: Group,
-    name: &Name,
-    element: &PlacedElement<'_>,
+    element: &GroupElement<'_>,
 ) -> Result<List<Change>, EvalFault>
     ensures { GivesFault (λ changes. changes) result
-        (changes_named (Some name.now) group (context_of F.files context.now)
-        (seen_element element.now)) }
+        (changes_named (Some element.now.name.now) element.now.group
+        (context_of F.files context.now) (seen_element element.now.at)) }
 {
-    let lens = context.lens(element.file);
-    let buckets = element_buckets(alloc, &lens, &["Label"], element, group.own_type(name))?;
-    bucket_changes(alloc, context, group, name, element, buckets.as_slice())
+    let lens = context.lens(element.at.file);
+    let own_type = element.group.own_type(element.name);
+    let buckets = element_buckets(alloc, &lens, &["Label"], &element.at, own_type)?;
+    bucket_changes(alloc, context, element, buckets.as_slice())
 }
 
 fn bucket_changes<'b, F: ListedFiles>(
     alloc: Global,
     context: &'b ElementContext<'_, F>,
-    group: Group,
-    name: &Name,
-    element: &PlacedElement<'_>,
+    element: &GroupElement<'_>,
     buckets: &'b [Bucket],
 ) -> Result<List<Change>, EvalFault>
     ensures { GivesFault (λ changes. changes) result
         (joined_ok
-        (λ bucket. changes_in group name.now (in_bucket (context_of F.files context.now) bucket)
-        (seen_element element.now)) buckets.now) }
+        (λ bucket. changes_in element.now.group element.now.name.now
+        (in_bucket (context_of F.files context.now) bucket) (seen_element element.now.at))
+        buckets.now) }
 {
     let mut changes = List::new(alloc);
     for bucket in buckets {
-        push_changes_in(
-            alloc,
-            &context.in_bucket(bucket),
-            group,
-            name,
-            element,
-            &mut changes,
-        )?;
+        push_changes_in(alloc, &context.in_bucket(bucket), element, &mut changes)?;
     }
     Ok(changes)
 }
@@ -197,16 +203,15 @@ fn bucket_changes<'b, F: ListedFiles>(
 fn push_changes_in<F: ListedFiles>(
     alloc: Global,
     context: &ElementContext<'_, F>,
-    group: Group,
-    name: &Name,
-    element: &PlacedElement<'_>,
+    element: &GroupElement<'_>,
     changes: &mut List<Change>,
 ) -> Result<(), EvalFault>
     ensures { GivesFault (λ _. changes.new) result
         (map_ok (λ more. changes.old ++ more)
-        (changes_in group name.now (context_of F.files context.now) (seen_element element.now))) }
+        (changes_in element.now.group element.now.name.now (context_of F.files context.now)
+        (seen_element element.now.at))) }
 {
-    let change = change_in(alloc, context, group, name, element)?;
+    let change = change_in(alloc, context, element)?;
     push_if(changes, change)?;
     Ok(())
 }
@@ -224,15 +229,14 @@ fn push_if(changes: &mut List<Change>, change: Option<Change>) -> Result<(), NoM
 fn change_in<F: ListedFiles>(
     alloc: Global,
     context: &ElementContext<'_, F>,
-    group: Group,
-    name: &Name,
-    element: &PlacedElement<'_>,
+    element: &GroupElement<'_>,
 ) -> Result<Option<Change>, EvalFault>
     ensures { GivesFault option_to_list result
-        (changes_in group name.now (context_of F.files context.now) (seen_element element.now)) }
+        (changes_in element.now.group element.now.name.now (context_of F.files context.now)
+        (seen_element element.now.at)) }
 {
-    match group {
-        Group::Properties => property_change(alloc, context, name, element),
-        Group::Items => item_change(alloc, context, name, element),
+    match element.group {
+        Group::Properties => property_change(alloc, context, element.name, &element.at),
+        Group::Items => item_change(alloc, context, element.name, &element.at),
     }
 }

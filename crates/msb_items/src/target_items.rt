@@ -40,7 +40,7 @@ ghost use Rattle.msb_items.specs.TargetItems.{
 use crate::changes::{apply_exclude, names_at, target_items_at};
 use crate::files::ListedFiles;
 use crate::item_names::is_named;
-use crate::metadata::{Kind, metadata_on};
+use crate::metadata::{Kind, metadata_on, no_item};
 use crate::pairs::put_pairs;
 use crate::repeats::without_repeats;
 use crate::transfer::Transfer;
@@ -178,11 +178,7 @@ fn pairs_on<F: Present>(
         (pairs_written (context_of F.files context.now) kind.now (seen_element element.now)) }
 {
     let written = metadata_on(alloc, Kind::TargetItem, element)?;
-    let mut item = Item {
-        ident: Text::from(String::new(alloc)),
-        recursive: Text::from(String::new(alloc)),
-        meta: Pairs::new(alloc),
-    };
+    let mut item = no_item(alloc);
     set_metadata(alloc, context, kind, &written, &mut item)?;
     let (_, _, meta) = item.parts();
     Ok(meta)

@@ -4,9 +4,8 @@ ghost use Rattle.build_world.specs.Answers.{GivesFault};
 ghost use Rattle.msb_glob.specs.FoldedNames.{seen_names};
 ghost use Rattle.msb_items.specs.FoldedNames.{is_named_by};
 ghost use Rattle.msb_items.specs.Items.{with_all_metadata, with_metadata_written};
-ghost use Rattle.msb_items.specs.Replaced.{replacement_if};
 ghost use Rattle.element_texts.specs.Seen.{context_of};
-ghost use Rattle.msb_items.specs.Seen.{metadata_of};
+ghost use Rattle.msb_items.specs.Seen.{metadata_of, replaced_by, with_given};
 
 use crate::item_names::is_named;
 use crate::metadata::WrittenMetadata;
@@ -17,40 +16,41 @@ use msb_paths::Present;
 use msb_values::{Copied, Item, Name, NoMemory};
 use std::alloc::Global;
 
-/// Gives the metadata that are written on an element to each of some items.
+/// The metadata that are written on an element, which are given to items of a type.
+#[derive(Drop)]
+pub(crate) struct GivenMetadata<'a> {
+    pub(crate) kind: &'a Name,
+    pub(crate) written: Vec<WrittenMetadata<'a>>,
+}
+
+/// Gives metadata to each of some items.
 pub(crate) fn with_metadata<F: Present>(
     alloc: Global,
     context: &ElementContext<'_, F>,
-    kind: &Name,
-    written: &[WrittenMetadata<'_>],
+    given: &GivenMetadata<'_>,
     items: Vec<Item>,
 ) -> Result<Vec<Item>, EvalFault>
     ensures { GivesFault (λ items. items.items) result
-        (all_ok
-        (with_all_metadata (context_of F.files context.now) kind.now (map metadata_of written.now))
-        items.items) }
+        (all_ok (with_given (context_of F.files context.now) given.now) items.items) }
 {
     let mut done = Vec::new(alloc);
-    push_all(alloc, context, kind, written, &mut done, items)?;
+    push_all(alloc, context, given, &mut done, items)?;
     Ok(done)
 }
 
 fn push_all<F: Present>(
     alloc: Global,
     context: &ElementContext<'_, F>,
-    kind: &Name,
-    written: &[WrittenMetadata<'_>],
+    given: &GivenMetadata<'_>,
     done: &mut Vec<Item>,
     items: Vec<Item>,
 ) -> Result<(), EvalFault>
     ensures { GivesFault (λ _. done.new.items) result
         (map_ok (λ more. done.old.items ++ more)
-        (all_ok
-        (with_all_metadata (context_of F.files context.now) kind.now (map metadata_of written.now))
-        items.items)) }
+        (all_ok (with_given (context_of F.files context.now) given.now) items.items)) }
 {
     for item in items {
-        push_one(alloc, context, kind, written, done, item)?;
+        push_one(alloc, context, given, done, item)?;
     }
     Ok(())
 }
@@ -58,18 +58,17 @@ fn push_all<F: Present>(
 fn push_one<F: Present>(
     alloc: Global,
     context: &ElementContext<'_, F>,
-    kind: &Name,
-    written: &[WrittenMetadata<'_>],
+    given: &GivenMetadata<'_>,
     done: &mut Vec<Item>,
     item: Item,
 ) -> Result<(), EvalFault>
     ensures { GivesFault (λ _. done.new.items) result
         (map_ok (λ item. done.old.items ++ item ∷ [])
-        (with_all_metadata (context_of F.files context.now) kind.now (map metadata_of written.now)
-        item)) }
+        (with_given (context_of F.files context.now) given.now item)) }
 {
     let mut item = item;
-    set_metadata(alloc, context, kind, written, &mut item)?;
+    let written = given.written.as_slice();
+    set_metadata(alloc, context, given.kind, written, &mut item)?;
     push(done, item)?;
     Ok(())
 }
@@ -85,19 +84,19 @@ fn push(items: &mut Vec<Item>, item: Item) -> Result<(), NoMemory>
 pub(crate) fn replacements<F: Present>(
     alloc: Global,
     context: &ElementContext<'_, F>,
-    kind: &Name,
+    given: &GivenMetadata<'_>,
     names: &ItemNames,
-    written: &[WrittenMetadata<'_>],
     items: &[Item],
 ) -> Result<Vec<Option<Item>>, EvalFault>
     ensures { GivesFault (λ replacements. replacements.items) result
         (all_ok
-        (λ item. replacement_if (is_named_by context.now.project.now (seen_names names.now) item)
-        (context_of F.files context.now) kind.now (map metadata_of written.now) item) items.now) }
+        (λ item. replaced_by (context_of F.files context.now) given.now
+        (is_named_by context.now.project.now (seen_names names.now) item) item)
+        items.now) }
 {
     let mut replacements = Vec::new(alloc);
     for item in items {
-        let replacement = replacement(alloc, context, kind, names, written, item)?;
+        let replacement = replacement(alloc, context, given, names, item)?;
         replacements.push(replacement)?;
     }
     Ok(replacements)
@@ -106,17 +105,16 @@ pub(crate) fn replacements<F: Present>(
 fn replacement<F: Present>(
     alloc: Global,
     context: &ElementContext<'_, F>,
-    kind: &Name,
+    given: &GivenMetadata<'_>,
     names: &ItemNames,
-    written: &[WrittenMetadata<'_>],
     item: &Item,
 ) -> Result<Option<Item>, EvalFault>
     ensures { GivesFault (λ replacement. replacement) result
-        (replacement_if (is_named_by context.now.project.now (seen_names names.now) item.now)
-        (context_of F.files context.now) kind.now (map metadata_of written.now) item.now) }
+        (replaced_by (context_of F.files context.now) given.now
+        (is_named_by context.now.project.now (seen_names names.now) item.now) item.now) }
 {
     if is_named(alloc, context.project, names, item)? {
-        return copy_with_metadata(alloc, context, kind, written, item);
+        return copy_with_metadata(alloc, context, given, item);
     }
     Ok(None)
 }
@@ -124,16 +122,15 @@ fn replacement<F: Present>(
 fn copy_with_metadata<F: Present>(
     alloc: Global,
     context: &ElementContext<'_, F>,
-    kind: &Name,
-    written: &[WrittenMetadata<'_>],
+    given: &GivenMetadata<'_>,
     item: &Item,
 ) -> Result<Option<Item>, EvalFault>
     ensures { GivesFault (λ replacement. replacement) result
-        (replacement_if true (context_of F.files context.now) kind.now (map metadata_of written.now)
-        item.now) }
+        (replaced_by (context_of F.files context.now) given.now true item.now) }
 {
     let mut item = item.copy()?;
-    set_metadata(alloc, context, kind, written, &mut item)?;
+    let written = given.written.as_slice();
+    set_metadata(alloc, context, given.kind, written, &mut item)?;
     Ok(Some(item))
 }
 

@@ -1,5 +1,5 @@
 -- The buckets of a target. (MSBuild batching; Target element)
-use Rattle.std.specs.Prelude.{ℕ, List, [], ◌∷◌, Result, codes}
+use Rattle.std.specs.Prelude.{List, [], ◌∷◌, Result, codes}
 use Rattle.msb_laws.specs.Words.{Text}
 use Rattle.msb_expand.specs.declared.lens.Bucket.{Bucket}
 use Rattle.build_world.specs.Elements.{At}

@@ -1,5 +1,5 @@
 -- The Outputs of a task that is not called. (Incremental builds: output inference)
-use Rattle.std.specs.Prelude.{ℕ, List, [], Bool, true, false}
+use Rattle.std.specs.Prelude.{[], Bool, true, false}
 use Rattle.std.specs.Str.{str_to_ascii_lowercase}
 use Rattle.msb_laws.specs.Words.{Name}
 use Rattle.msb_elements.specs.Nodes.{name_of}

@@ -1,6 +1,6 @@
 -- The Inputs and Outputs of a target in a bucket. (Target element: Inputs, Outputs; Incremental
 -- builds)
-use Rattle.std.specs.Prelude.{ℕ, List, Option, Some, None, option_map, Result, Ok, Err}
+use Rattle.std.specs.Prelude.{List, Option, Some, None, option_map, Result, Ok, Err}
 use Rattle.msb_laws.specs.Words.{Text, Name, Path}
 use Rattle.msb_laws.specs.Results.{and_then, map_ok, all_ok}
 use Rattle.msb_paths.specs.Refused.{normal_path}

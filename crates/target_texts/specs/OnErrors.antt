@@ -1,6 +1,5 @@
 -- What comes of a task that fails. (Task element: ContinueOnError)
 use Rattle.std.specs.Prelude.{
-  ℕ,
   List,
   [],
   ◌∷◌,

@@ -1,6 +1,5 @@
 -- What a task's Outputs change. (Output element)
 use Rattle.std.specs.Prelude.{
-  ℕ,
   List,
   [],
   ◌∷◌,

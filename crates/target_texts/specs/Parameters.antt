@@ -1,6 +1,5 @@
 -- The parameters of a task, as it is handed them. (Task element; MSBuild items, item metadata)
 use Rattle.std.specs.Prelude.{
-  ℕ,
   List,
   [],
   ◌∷◌,

@@ -1,5 +1,5 @@
 -- The items that a target returns. (Target element: Returns, Outputs, KeepDuplicateOutputs)
-use Rattle.std.specs.Prelude.{ℕ, List, [], Bool, true, false, Option, Some, None, Result, Ok, codes}
+use Rattle.std.specs.Prelude.{List, [], Bool, true, false, Option, Some, None, Result, Ok, codes}
 use Rattle.msb_laws.specs.Words.{Text}
 use Rattle.msb_laws.specs.Results.{and_then, map_ok}
 use Rattle.msb_values.specs.Escapes.{unescaped}

@@ -4,7 +4,6 @@
 //! goes on. (Target element; Task element; Output element; How to build incrementally.)
 #![tactic(auto)]
 
-mod batched;
 mod bucket;
 mod inferred;
 mod lists;
@@ -12,12 +11,13 @@ mod on_error;
 mod outputs;
 mod parameters;
 mod returned;
+mod target;
 
-pub use batched::target_buckets;
 pub use bucket::without_lists;
 pub use inferred::{push_inferred, task_of};
 pub use lists::Lists;
 pub use on_error::OnError;
 pub use outputs::push_outputs;
 pub use parameters::TaskElement;
-pub use returned::{keeps_repeats, listed_items, returned_items, returns_of};
+pub use returned::returns_of;
+pub use target::TargetElement;

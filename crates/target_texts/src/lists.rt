@@ -11,13 +11,12 @@ ghost use Rattle.target_texts.specs.Returned.{in_target};
 ghost use Rattle.target_texts.specs.Seen.{seen_lists, seen_context};
 
 use crate::bucket::without_lists;
-use build_world::{EvalFault, PlacedElement};
-use element_texts::ElementContext;
+use crate::target::TargetElement;
+use build_world::EvalFault;
 use msb_expand::{Bucket, folder_of};
 use msb_expression::{Expr, ExprFault, parse};
-use msb_files::FileView;
 use msb_paths::{NormalFault, normal_path};
-use msb_values::{Cause, Copied, Item, List, Name, NoMemory, Scope, Text, unescape};
+use msb_values::{Cause, Item, List, Name, NoMemory, Scope, Text, unescape};
 use std::alloc::Global;
 use target_incremental::item_type;
 
@@ -36,56 +35,53 @@ impl Lists {
     /// is a fault of the element: Inputs' entries come first, then Outputs'.
     pub fn of(
         alloc: Global,
-        context: &ElementContext<'_, FileView<'_>>,
+        target: &TargetElement<'_>,
         bucket: &Bucket,
-        element: &PlacedElement<'_>,
     ) -> Result<Option<Lists>, EvalFault>
         ensures { GivesFault (option_map seen_lists) result
-            (lists_by (in_target (seen_context context.now) bucket.now) (seen_element element.now)
-            (attribute_of (codes "Inputs") (seen_element element.now))
-            (attribute_of (codes "Outputs") (seen_element element.now))) }
+            (lists_by (in_target (seen_context target.now.context) bucket.now)
+            (seen_element target.now.element)
+            (attribute_of (codes "Inputs") (seen_element target.now.element))
+            (attribute_of (codes "Outputs") (seen_element target.now.element))) }
     {
-        let inputs = element.element.attribute("Inputs");
-        let outputs = element.element.attribute("Outputs");
+        let inputs = target.element.element.attribute("Inputs");
+        let outputs = target.element.element.attribute("Outputs");
         match (inputs, outputs) {
-            (Some(inputs), Some(outputs)) => Lists::in_bucket(
-                alloc, context, bucket, element, inputs, outputs,
-            ),
+            (Some(inputs), Some(outputs)) => {
+                Lists::in_bucket(alloc, target, bucket, inputs, outputs)
+            }
             _ => Ok(None),
         }
     }
 
     fn in_bucket(
         alloc: Global,
-        context: &ElementContext<'_, FileView<'_>>,
+        target: &TargetElement<'_>,
         bucket: &Bucket,
-        element: &PlacedElement<'_>,
         inputs: &str,
         outputs: &str,
     ) -> Result<Option<Lists>, EvalFault>
         ensures { GivesFault (option_map seen_lists) result
-            (lists_by (in_target (seen_context context.now) bucket.now) (seen_element element.now)
-            (Some inputs.now) (Some outputs.now)) }
+            (lists_by (in_target (seen_context target.now.context) bucket.now)
+            (seen_element target.now.element) (Some inputs.now) (Some outputs.now)) }
     {
         let bucket = without_lists(alloc, bucket)?;
-        let context = context.in_bucket(&bucket);
-        Ok(Some(Lists::of_texts(alloc, &context, element, inputs, outputs)?))
+        Ok(Some(Lists::of_texts(alloc, &target.in_bucket(&bucket), inputs, outputs)?))
     }
 
     fn of_texts(
         alloc: Global,
-        context: &ElementContext<'_, FileView<'_>>,
-        element: &PlacedElement<'_>,
+        target: &TargetElement<'_>,
         inputs: &str,
         outputs: &str,
     ) -> Result<Lists, EvalFault>
         ensures { GivesFault (λ lists. Some (seen_lists lists)) result
-            (lists_by (seen_context context.now) (seen_element element.now) (Some inputs.now)
-            (Some outputs.now)) }
+            (lists_by (seen_context target.now.context) (seen_element target.now.element)
+            (Some inputs.now) (Some outputs.now)) }
     {
-        let input_paths = paths(alloc, context, element, inputs)?;
-        let output_paths = paths(alloc, context, element, outputs)?;
-        let items = typed_items(alloc, context.scope, inputs, outputs)?;
+        let input_paths = paths(alloc, target, inputs)?;
+        let output_paths = paths(alloc, target, outputs)?;
+        let items = typed_items(alloc, target.context.scope, inputs, outputs)?;
         Ok(Lists {
             inputs: input_paths,
             outputs: output_paths,
@@ -95,19 +91,14 @@ impl Lists {
 }
 
 // The entries of a text as normal paths on the project's folder.
-fn paths(
-    alloc: Global,
-    context: &ElementContext<'_, FileView<'_>>,
-    element: &PlacedElement<'_>,
-    written: &str,
-) -> Result<List<Text>, EvalFault>
+fn paths(alloc: Global, target: &TargetElement<'_>, written: &str) -> Result<List<Text>, EvalFault>
     ensures { GivesFault (λ paths. paths) result
-        (paths_at (seen_context context.now) (seen_element element.now) written.now) }
+        (paths_at (seen_context target.now.context) (seen_element target.now.element) written.now) }
 {
-    let items = context.list(alloc, element, written)?;
-    match paths_of(alloc, context.project, items.as_slice()) {
+    let items = target.context.list(alloc, &target.element, written)?;
+    match paths_of(alloc, target.context.project, items.as_slice()) {
         Ok(paths) => Ok(paths),
-        Err(cause) => Err(element.fault(alloc, cause)),
+        Err(cause) => Err(target.element.fault(alloc, cause)),
     }
 }
 

@@ -9,7 +9,6 @@ ghost use Rattle.msb_items.specs.Metadata.{is_one_of};
 ghost use Rattle.element_texts.specs.Contexts.{in_bucket};
 ghost use Rattle.target_texts.specs.Parameters.{
   items_of,
-  param_if,
   param_named,
   param_of,
   params_at,

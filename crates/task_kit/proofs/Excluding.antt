@@ -1,5 +1,5 @@
 -- What the code finds excluded is what the entries of Exclude name.
-use Rattle.std.proofs.Common.{◌≡◌, ℕ, List, Bool, not, filter, sym, ap, ◌∙◌}
+use Rattle.std.proofs.Common.{◌≡◌, ℕ, List, Bool, not, filter, ap, ◌∙◌}
 use Rattle.msb_values.specs.declared.item.Item.{Item}
 use Rattle.msb_glob.specs.FoldedNames.{folded_names, is_named_by}
 use Rattle.msb_glob.specs.ItemNames.{ItemNames, is_named}

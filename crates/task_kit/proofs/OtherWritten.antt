@@ -5,9 +5,6 @@ use Rattle.std.proofs.Common.{
   ◌+◌,
   ◌==◌,
   ◌&&◌,
-  ◌⊎◌,
-  inl,
-  inr,
   not,
   Bool,
   true,
@@ -23,12 +20,10 @@ use Rattle.std.proofs.Common.{
   refl,
   ap,
   ◌∙◌,
-  sym,
-  subst,
   zip,
 }
-use Rattle.std.specs.Prelude.{Result, Ok, Err, codes, if◌then◌else◌, map}
-use Rattle.msb_laws.specs.Results.{and_then, map_ok, all_ok, fold_ok}
+use Rattle.std.specs.Prelude.{Result, Ok, Err, codes, if◌then◌else◌}
+use Rattle.msb_laws.specs.Results.{and_then, map_ok, all_ok}
 use Rattle.msb_values.specs.Pairs.{value_at}
 use Rattle.msb_values.specs.declared.item.Item.{Item}
 use Rattle.msb_values.specs.declared.note.Note.{Note}
@@ -55,7 +50,6 @@ use Rattle.task_kit.specs.Copies.{
   copied_from,
   copied,
   copy_outputs,
-  output_copied,
   all_copied,
   copied_to,
   copy,

@@ -7,7 +7,6 @@ use Rattle.std.proofs.Common.{
   not,
   Bool,
   true,
-  false,
   List,
   [],
   ◌∷◌,
@@ -40,9 +39,7 @@ use Rattle.task_trait.specs.Params.{
   needed_items,
 }
 use Rattle.task_trait.specs.declared.failures.Failure.{Failure}
-use Rattle.task_trait.specs.declared.tools.FileIn.{FileIn}
 use Rattle.task_trait.specs.declared.tools.Param.{Param}
-use Rattle.task_trait.specs.declared.tools.TaskOutput.{TaskOutput}
 use Rattle.task_trait.specs.declared.tools.ToolAnswer.TheVariants.{Made as MadeBy}
 use Rattle.task_kit.specs.Copies.{
   with_item,

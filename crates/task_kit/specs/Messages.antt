@@ -1,7 +1,6 @@
 -- Tasks that say something: Message, Warning and Error; and CreateProperty, which gives what it is
 -- handed. (Message, Warning, Error and CreateProperty task)
 use Rattle.std.specs.Prelude.{
-  ℕ,
   Bool,
   true,
   false,

@@ -1,5 +1,5 @@
 -- The paths that a task is handed, from the folder of its project. (MSBuild tasks)
-use Rattle.std.specs.Prelude.{ℕ, List, Result, Ok, Err}
+use Rattle.std.specs.Prelude.{Result, Ok, Err}
 use Rattle.msb_laws.specs.Words.{Text, Name, Path}
 use Rattle.msb_paths.specs.Refused.{normal_path}
 use Rattle.msb_paths.specs.declared.errors.NormalFault.{NormalFault}

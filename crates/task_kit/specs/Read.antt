@@ -1,6 +1,5 @@
 -- ReadLinesFromFile: the lines of a file. (ReadLinesFromFile task)
 use Rattle.std.specs.Prelude.{
-  ℕ,
   ◌==◌,
   List,
   [],

@@ -2,7 +2,6 @@
 -- task)
 use Rattle.std.specs.Prelude.{
   ◌≡◌,
-  ℕ,
   Bool,
   not,
   ◌&&◌,

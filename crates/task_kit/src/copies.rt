@@ -69,6 +69,18 @@ impl Drop for Destination {
     }
 }
 
+/// What a Copy task copies by. (Copy task.)
+#[derive(Clone, Copy)]
+struct CopyContext<'a> {
+    alloc: Global,
+    /// Files as they are before the task.
+    view: &'a FileView<'a>,
+    /// Whether a destination that has the bytes of its source already is left as it is.
+    skip_unchanged: bool,
+    /// The bytes that the run has written before the task.
+    written: u64,
+}
+
 /// The copies of the sources at their destinations. (Copy task.)
 pub(crate) fn copy(
     alloc: Global,
@@ -84,10 +96,16 @@ pub(crate) fn copy(
     let folder = text_of(params, "destinationfolder");
     let named = named_destinations(alloc, dir, items_of(params, "destinationfiles"))?;
     let below = all_below(alloc, dir, folder, items)?;
-    let skip = truth_at(alloc, params, "skipunchangedfiles")?;
+    let skip_unchanged = truth_at(alloc, params, "skipunchangedfiles")?;
     let sources = all_sources(alloc, dir, items)?;
-    let to = choose_destinations(named, !folder.is_empty(), below);
-    copy_to(alloc, view, skip, written, sources.as_slice(), to)
+    let destinations = choose_destinations(named, !folder.is_empty(), below);
+    let context = CopyContext {
+        alloc,
+        view,
+        skip_unchanged,
+        written,
+    };
+    context.copy_to(sources.as_slice(), destinations)
 }
 
 fn named_destinations(
@@ -220,44 +238,122 @@ fn choose_destinations(
     }
 }
 
-/// The sources at as many destinations; without sources nothing is copied, wherever to.
-fn copy_to(
-    alloc: Global,
-    view: &FileView<'_>,
-    skip: bool,
-    written: u64,
-    sources: &[Source],
-    to: Result<List<Destination>, Failure>,
-) -> Result<TaskOutput, Failure>
-    ensures { (all : Result (List Destination) Failure) → Gives to all
-        → Gives result (copied_to view.now skip written sources.now all) }
-{
-    if sources.is_empty() {
-        return Ok(copy_all(alloc, view, skip, written, sources, &[])?);
+impl<'a> CopyContext<'a> {
+    /// The sources at as many destinations; without sources nothing is copied, wherever to.
+    fn copy_to(
+        &self,
+        sources: &[Source],
+        destinations: Result<List<Destination>, Failure>,
+    ) -> Result<TaskOutput, Failure>
+        ensures { (all : Result (List Destination) Failure) → Gives destinations all
+            → Gives result
+            (copied_to self.now.view.now self.now.skip_unchanged self.now.written sources.now
+            all) }
+    {
+        if sources.is_empty() {
+            return Ok(self.copy_all(sources, &[])?);
+        }
+        let destinations = destinations?;
+        if destinations.len() != sources.len() {
+            return Err(Failure::Counts(sources.len(), destinations.len()));
+        }
+        Ok(self.copy_all(sources, destinations.as_slice())?)
     }
-    let to = to?;
-    if to.len() != sources.len() {
-        return Err(Failure::Counts(sources.len(), to.len()));
-    }
-    Ok(copy_all(alloc, view, skip, written, sources, to.as_slice())?)
-}
 
-fn copy_all(
-    alloc: Global,
-    view: &FileView<'_>,
-    skip: bool,
-    written: u64,
-    sources: &[Source],
-    destinations: &[Destination],
-) -> Result<TaskOutput, NoMemory>
-    requires { length destinations.now ≡ length sources.now }
-    ensures { IfOk result
-        (λ output. output ≡ all_copied view.now skip written sources.now destinations.now) }
-{
-    let mut progress = TaskProgress::new(alloc, written);
-    let work = copy_each(alloc, view, skip, &mut progress, sources, destinations);
-    let outputs = copy_outputs(alloc, progress.items.as_slice())?;
-    Ok(output_with(alloc, "copy", success(alloc, outputs), progress, work)?)
+    fn copy_all(
+        &self,
+        sources: &[Source],
+        destinations: &[Destination],
+    ) -> Result<TaskOutput, NoMemory>
+        requires { length destinations.now ≡ length sources.now }
+        ensures { IfOk result
+            (λ output. output
+            ≡ all_copied self.now.view.now self.now.skip_unchanged self.now.written sources.now
+            destinations.now) }
+    {
+        let mut progress = TaskProgress::new(self.alloc, self.written);
+        let work = self.copy_each(&mut progress, sources, destinations);
+        let outputs = copy_outputs(self.alloc, progress.items.as_slice())?;
+        Ok(output_with(
+            self.alloc,
+            "copy",
+            success(self.alloc, outputs),
+            progress,
+            work,
+        )?)
+    }
+
+    fn copy_each(
+        &self,
+        progress: &mut TaskProgress,
+        sources: &[Source],
+        destinations: &[Destination],
+    ) -> Result<(), Failure>
+        requires { length destinations.now ≡ length sources.now }
+        ensures { Makes result progress.new
+            (made_by (copied self.now.view.now self.now.skip_unchanged) progress.old
+            (zip sources.now destinations.now)) }
+    {
+        for (at, source) in sources.iter().enumerate() {
+            self.copy_one(progress, source, &destinations[at])?;
+        }
+        Ok(())
+    }
+
+    fn copy_one(
+        &self,
+        progress: &mut TaskProgress,
+        source: &Source,
+        destination: &Destination,
+    ) -> Result<(), Failure>
+        ensures { Acts result progress.old progress.new
+            (copied self.now.view.now self.now.skip_unchanged progress.old
+            (source.now, destination.now)) }
+    {
+        match self.view.content(source.path.as_str()) {
+            Some(bytes) => self.copy_bytes(progress, bytes, source, destination),
+            None => Err(Failure::MissingSource(source.item.ident.copy()?)),
+        }
+    }
+
+    fn copy_bytes(
+        &self,
+        progress: &mut TaskProgress,
+        bytes: &[u8],
+        source: &Source,
+        destination: &Destination,
+    ) -> Result<(), Failure>
+        ensures { Acts result progress.old progress.new
+            (copied_from (Some bytes.now) self.now.view.now self.now.skip_unchanged progress.old
+            (source.now, destination.now)) }
+    {
+        self.write_at(progress, bytes, destination)?;
+        progress.items.push(copied_item(source, destination)?)?;
+        Ok(())
+    }
+
+    /// Writes the bytes, unless the destination has them already and is then left as it is.
+    fn write_at(
+        &self,
+        progress: &mut TaskProgress,
+        bytes: &[u8],
+        destination: &Destination,
+    ) -> Result<(), Failure>
+        ensures { Acts result progress.old progress.new
+            (written_at self.now.view.now self.now.skip_unchanged bytes.now destination.now
+            progress.old) }
+    {
+        if self.skip_unchanged
+            && is_unchanged(self.view.content(destination.path.as_str()), bytes)
+        {
+            return Ok(());
+        }
+        let put = Put {
+            path: destination.path.copy()?,
+            bytes: Shared::new(self.alloc, Text8::of(self.alloc, bytes)?)?,
+        };
+        progress.write(self.alloc, destination.text.as_str(), put)
+    }
 }
 
 /// The copied items under both names of the task's outputs.
@@ -268,80 +364,6 @@ fn copy_outputs(alloc: Global, items: &[Item]) -> Result<List<Param>, NoMemory>
     outputs.push(output(alloc, "destinationfiles", List::of(alloc, items)?)?)?;
     outputs.push(output(alloc, "copiedfiles", List::of(alloc, items)?)?)?;
     Ok(outputs)
-}
-
-fn copy_each(
-    alloc: Global,
-    view: &FileView<'_>,
-    skip: bool,
-    progress: &mut TaskProgress,
-    sources: &[Source],
-    destinations: &[Destination],
-) -> Result<(), Failure>
-    requires { length destinations.now ≡ length sources.now }
-    ensures { Makes result progress.new
-        (made_by (copied view.now skip) progress.old (zip sources.now destinations.now)) }
-{
-    for (at, source) in sources.iter().enumerate() {
-        copy_one(alloc, view, skip, progress, source, &destinations[at])?;
-    }
-    Ok(())
-}
-
-fn copy_one(
-    alloc: Global,
-    view: &FileView<'_>,
-    skip: bool,
-    progress: &mut TaskProgress,
-    source: &Source,
-    destination: &Destination,
-) -> Result<(), Failure>
-    ensures { Acts result progress.old progress.new
-        (copied view.now skip progress.old (source.now, destination.now)) }
-{
-    match view.content(source.path.as_str()) {
-        Some(bytes) => copy_bytes(alloc, view, skip, progress, bytes, source, destination),
-        None => Err(Failure::MissingSource(source.item.ident.copy()?)),
-    }
-}
-
-fn copy_bytes(
-    alloc: Global,
-    view: &FileView<'_>,
-    skip: bool,
-    progress: &mut TaskProgress,
-    bytes: &[u8],
-    source: &Source,
-    destination: &Destination,
-) -> Result<(), Failure>
-    ensures { Acts result progress.old progress.new
-        (copied_from (Some bytes.now) view.now skip progress.old (source.now, destination.now)) }
-{
-    write_at(alloc, view, skip, progress, bytes, destination)?;
-    progress.items.push(copied_item(source, destination)?)?;
-    Ok(())
-}
-
-/// Writes the bytes, unless the destination has them already and is then left as it is.
-fn write_at(
-    alloc: Global,
-    view: &FileView<'_>,
-    skip: bool,
-    progress: &mut TaskProgress,
-    bytes: &[u8],
-    destination: &Destination,
-) -> Result<(), Failure>
-    ensures { Acts result progress.old progress.new
-        (written_at view.now skip bytes.now destination.now progress.old) }
-{
-    if skip && is_unchanged(view.content(destination.path.as_str()), bytes) {
-        return Ok(());
-    }
-    let put = Put {
-        path: destination.path.copy()?,
-        bytes: Shared::new(alloc, Text8::of(alloc, bytes)?)?,
-    };
-    progress.write(alloc, destination.text.as_str(), put)
 }
 
 fn is_unchanged(held: Option<&[u8]>, bytes: &[u8]) -> bool

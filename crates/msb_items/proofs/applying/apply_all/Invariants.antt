@@ -1,5 +1,5 @@
 use Rattle.std.proofs.Common.{◌≡◌, drop}
-use Rattle.msb_items.specs.TargetGroups.{all_applied}
+use Rattle.msb_values.specs.Changes.{all_applied}
 use Rattle.msb_items.proofs.applying.apply_all.Given as goal
 
 abbrev pub invariant-loop-change : goal.invariant-loop-change

@@ -12,7 +12,8 @@ use Rattle.msb_items.proofs.changes.remove_excluded.Goals as goal
 pub returns : goal.returns
 returns g c =
     left_same (λ items. items) c.args.context.now.project.now c.args.items.items _
-    (seen_names c.in_ok-names.names) c.in_ok-names.ensures ∙ ap Ok (sym c.in_ok-keep_unnamed.ensures)
+    (seen_names c.in_ok-names.names) c.in_ok-names.ensures
+    ∙ ap Ok (sym c.in_ok-keep_unnamed.ensures)
 
 pub returns-in_err-names : goal.returns-in_err-names
 returns-in_err-names g c =

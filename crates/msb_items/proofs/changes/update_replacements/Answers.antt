@@ -22,8 +22,8 @@ use Rattle.msb_items.proofs.changes.update_replacements.Goals as goal
 pub returns : goal.returns
 returns g c =
     let context = context_of g.F.Present.files c.args.context.now in
-    let kind = c.args.kind.now in
-    let e = seen_element c.args.element.now in
+    let kind = c.args.element.now.kind.now in
+    let e = seen_element c.args.element.now.at in
     let items = list_of c.args.context.now.scope.now kind in
     let names = seen_names c.in_ok-names.names in
     let next : (Item → Bool) → List WrittenMetadata → List Item
@@ -32,16 +32,15 @@ returns g c =
     let whole : and_then (names_at context e c.args.update.now)
     (λ names. replacements_of context kind (metadata_on item_attributes e)
     (is_named context.project names) items)
-    ≡ next (is_named_by context.project names) (map metadata_of c.deref.result.now)
+    ≡ next (is_named_by context.project names) (map metadata_of c.in_ok-written.written.items)
     c.list_of-items.result.now =
     chosen context.project (λ test. next test (metadata_on item_attributes e) items) _ names
     c.in_ok-names.ensures
-    ∙ ap (λ written. next (is_named_by context.project names) written items) (sym c.in_ok-written.ensures)
-    ∙ ap (λ written. next (is_named_by context.project names) (map metadata_of written) items)
-    (sym c.deref.ensures.value)
+    ∙ ap (λ written. next (is_named_by context.project names) written items)
+    (sym c.in_ok-written.ensures)
     ∙ ap
-    (λ items. next (is_named_by context.project names) (map metadata_of c.deref.result.now) items)
-    (sym c.list_of-items.ensures) in
+    (λ items. next (is_named_by context.project names)
+    (map metadata_of c.in_ok-written.written.items) items) (sym c.list_of-items.ensures) in
     let P : Result (List (Option Item)) EvalFault
     → Type 0 = λ x. GivesFault (λ replacements. replacements.items) c.replacements.result x in
     subst P (sym whole) c.replacements.ensures
@@ -50,8 +49,8 @@ pub returns-in_err-names : goal.returns-in_err-names
 returns-in_err-names g c =
     let p = err_from_is_err_and c.from_residual.result c.from_residual.ensures.1 in
     let context = context_of g.F.Present.files c.args.context.now in
-    let kind = c.args.kind.now in
-    let e = seen_element c.args.element.now in
+    let kind = c.args.element.now.kind.now in
+    let e = seen_element c.args.element.now.at in
     let items = list_of c.args.context.now.scope.now kind in
     let found = names_at context e c.args.update.now in
     let next : ItemNames → Result (List (Option Item)) EvalFault = λ names.

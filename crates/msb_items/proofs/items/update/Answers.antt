@@ -19,8 +19,8 @@ use Rattle.msb_items.proofs.items.update.Goals as goal
 pub returns : goal.returns
 returns g c =
     let context = context_of g.F.Present.files c.of_items-context.result in
-    let kind = c.args.kind.now in
-    let e = seen_element c.args.element.now in
+    let kind = c.args.element.now.kind.now in
+    let e = seen_element c.args.element.now.at in
     let written = c.args.written.now in
     let put : List (Option Item) → Scope = λ replacements.
     with_list context.scope kind (replaced (list_of context.scope kind) replacements) in
@@ -37,8 +37,8 @@ pub returns-in_err-replacements : goal.returns-in_err-replacements
 returns-in_err-replacements g c =
     let p = err_from_is_err_and c.from_residual.result c.from_residual.ensures.1 in
     let context = context_of g.F.Present.files c.of_items-context.result in
-    let kind = c.args.kind.now in
-    let e = seen_element c.args.element.now in
+    let kind = c.args.element.now.kind.now in
+    let e = seen_element c.args.element.now.at in
     let written = c.args.written.now in
     let put : List (Option Item) → Scope = λ replacements.
     with_list context.scope kind (replaced (list_of context.scope kind) replacements) in

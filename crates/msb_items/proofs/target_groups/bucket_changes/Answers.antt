@@ -19,8 +19,8 @@ pub loop-bucket-init : goal.loop-bucket-init
 loop-bucket-init g c =
     let context = context_of g.F.Present.files c.args.context.now in
     let changes : Bucket → Result (List Change) EvalFault = λ bucket.
-    changes_in c.args.group c.args.name.now (in_bucket context bucket)
-    (seen_element c.args.element.now) in
+    changes_in c.args.element.now.group c.args.element.now.name.now (in_bucket context bucket)
+    (seen_element c.args.element.now.at) in
     let buckets = c.args.buckets.now in
     record {
       is =
@@ -37,7 +37,8 @@ returns-in_err-push_changes_in g c =
     let P : ElementContext
     → Type 0 = λ context. UnlessMemory fault.cause
     (map_ok (λ more. c.loop-bucket.changes ++ more)
-    (changes_in c.args.group c.args.name.now context (seen_element c.args.element.now))
+    (changes_in c.args.element.now.group c.args.element.now.name.now context
+    (seen_element c.args.element.now.at))
     ≡ Err fault) in
     rw (p.1, p.2)
     (unless _

@@ -14,7 +14,7 @@ use Rattle.msb_items.proofs.target_groups.bucket_changes.Given as goal
 abbrev pub invariant-loop-bucket : goal.invariant-loop-bucket
 invariant-loop-bucket g l =
     let changes : Bucket → Result (List Change) EvalFault = λ bucket.
-    changes_in l.group l.name (in_bucket (context_of g.F.Present.files l.context) bucket)
-    (seen_element l.element) in
+    changes_in l.element.group l.element.name.now
+    (in_bucket (context_of g.F.Present.files l.context) bucket) (seen_element l.element.at) in
     IsFolded (λ s bucket. map_ok (λ more. s ++ more) (changes bucket)) l.buckets l.bucket-index
     l.changes (joined_ok changes l.buckets)

@@ -2,7 +2,8 @@ use Rattle.std.proofs.Common.{◌≡◌, drop, map}
 use Rattle.msb_elements.specs.View.{view}
 use Rattle.build_world.specs.Elements.{at, children_of, seen_element}
 use Rattle.msb_items.specs.Seen.{items_in}
-use Rattle.msb_items.specs.TargetGroups.{all_applied, changes_of_each, element_changes}
+use Rattle.msb_items.specs.TargetGroups.{changes_of_each, element_changes}
+use Rattle.msb_values.specs.Changes.{all_applied}
 use Rattle.msb_items.proofs.Changing.{IsChanging}
 use Rattle.msb_items.proofs.target_groups.change_by_each.Given as goal
 

@@ -18,7 +18,9 @@ returns g c =
     let names = seen_names c.in_ok-names.names in
     named_alike context.project (items_seen context c.args.kind.now) _ names c.in_ok-names.ensures
     ∙ ap Ok
-    (sym (c.in_ok-find_named.ensures ∙ ap (filter (is_named_by context.project names)) c.items.ensures))
+    (sym
+    (c.in_ok-find_named.ensures ∙ ap (filter (is_named_by context.project names))
+    c.items.ensures))
 
 pub returns-in_err-names : goal.returns-in_err-names
 returns-in_err-names g c =

@@ -3,7 +3,7 @@ use Rattle.msb_laws.proofs.Collecting.{fold_step, fold_stop, fold_end}
 use Rattle.task_trait.proofs.Stopping.{unless}
 use Rattle.task_kit.proofs.Acting.{goes_on, stops}
 use Rattle.task_kit.proofs.Pairing.{zip_at, zip_ends, zip_within}
-use Rattle.task_kit.proofs.copies.copy_each.Goals as goal
+use Rattle.task_kit.proofs.copies.CopyContext.copy_each.Goals as goal
 
 pub returns-in_err-copy_one : goal.returns-in_err-copy_one
 returns-in_err-copy_one c =
