@@ -91,13 +91,13 @@ pub fn show_spent(alloc: Global, bodies: u32) -> Result<Text8, NoMemory>
     Ok(Text8::from(text.into_bytes()))
 }
 
-fn push_body(shown: &mut String, which: &str, record: &Record) -> Result<(), NoMemory>
+fn push_body(shown: &mut String, which: &str, run_record: &Record) -> Result<(), NoMemory>
     ensures { OnOk result (string_bytes shown.new ≡ string_bytes shown.old
-        ++ body_lines which.now record.now) }
+        ++ body_lines which.now run_record.now) }
 {
     shown.push_str(which)?;
     shown.push(' ')?;
-    push_decisions(shown, record.decisions.as_slice())?;
+    push_decisions(shown, run_record.decisions.as_slice())?;
     shown.push('\n')?;
-    push_notes(shown, record.notes.as_slice(), false)
+    push_notes(shown, run_record.notes.as_slice(), false)
 }

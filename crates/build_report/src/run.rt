@@ -13,14 +13,14 @@ pub fn push_run(
     alloc: Global,
     shown: &mut String,
     run: &RunId,
-    record: &Record,
+    run_record: &Record,
     low: bool,
 ) -> Result<(), NoMemory>
     ensures { OnOk result (string_bytes shown.new
-        ≡ string_bytes shown.old ++ run_lines low run.now record.now) }
+        ≡ string_bytes shown.old ++ run_lines low run.now run_record.now) }
 {
-    push_run_line(alloc, shown, run, record.decisions.as_slice())?;
-    push_notes(shown, record.notes.as_slice(), low)
+    push_run_line(alloc, shown, run, run_record.decisions.as_slice())?;
+    push_notes(shown, run_record.notes.as_slice(), low)
 }
 
 fn push_run_line(

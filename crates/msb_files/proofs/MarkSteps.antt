@@ -1,8 +1,6 @@
 -- The marks of entries, one more, and those of two parts.
 use Rattle.std.proofs.Common.{
   ◌≡◌,
-  List,
-  [],
   ◌∷◌,
   ◌++◌,
   Bool,

@@ -81,15 +81,15 @@ impl Entry {
     /// The act of a segment of a run's record.
     pub(crate) fn of_record(
         run: &RunRef,
-        record: &RecordRef,
+        run_record: &RecordRef,
         number: usize,
     ) -> Result<Entry, NoMemory>
-        requires { IsSome (act_at record.now number) }
+        requires { IsSome (act_at run_record.now number) }
         ensures { IfOk result
-            (λ e. IfSome (act_at record.now number) (λ act. e ≡ acted run.now number act)) }
+            (λ e. IfSome (act_at run_record.now number) (λ act. e ≡ acted run.now number act)) }
     {
         let run = run.copy()?;
-        let act = ActRef::of_record(record, number)?;
+        let act = ActRef::of_record(run_record, number)?;
         Ok(Entry {
             kept: JEntry::Acted(run, number as u64, act),
         })

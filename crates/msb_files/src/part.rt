@@ -8,7 +8,6 @@ ghost use Rattle.std.specs.Prelude.{
   length,
   reverse,
   slice_get,
-  IfOk,
   OnOk,
   OnErr,
   option_copied,

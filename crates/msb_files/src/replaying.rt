@@ -95,18 +95,18 @@ fn take_record(
     journal: &mut Journal,
     table: &Table,
     run: &RunRef,
-    record: &RecordRef,
+    run_record: &RecordRef,
 ) -> Result<(), NoMemory>
     requires { IsSome
-        (replays (replay (before run.now table.now.finished)) (effects_of run.now record.now)
+        (replays (replay (before run.now table.now.finished)) (effects_of run.now run_record.now)
         journal.old) }
     ensures { OnOk result
-        (replays (replay (before run.now table.now.finished)) (effects_of run.now record.now)
+        (replays (replay (before run.now table.now.finished)) (effects_of run.now run_record.now)
         journal.old ≡ Some journal.new) }
 {
-    for (number, segment) in record.get().segments.as_slice().iter().enumerate() {
+    for (number, segment) in run_record.get().segments.as_slice().iter().enumerate() {
         match segment {
-            Segment::File(_) => journal.add(Entry::of_record(run, record, number)?)?,
+            Segment::File(_) => journal.add(Entry::of_record(run, run_record, number)?)?,
             Segment::Call(_, runs) => take_runs(journal, table, run, runs.as_slice())?,
         }
     }

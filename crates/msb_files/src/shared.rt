@@ -58,12 +58,12 @@ impl ActRef {
     }
 
     /// The act of a segment of a record.
-    pub(crate) fn of_record(record: &RecordRef, number: usize) -> Result<ActRef, NoMemory>
-        requires { IsSome (act_at record.now number) }
-        ensures { IfOk result (λ a. act_at record.now number ≡ Some a) }
+    pub(crate) fn of_record(run_record: &RecordRef, number: usize) -> Result<ActRef, NoMemory>
+        requires { IsSome (act_at run_record.now number) }
+        ensures { IfOk result (λ a. act_at run_record.now number ≡ Some a) }
     {
         Ok(ActRef {
-            kept: KeptAct::Recorded(record.copy()?, number),
+            kept: KeptAct::Recorded(run_record.copy()?, number),
         })
     }
 

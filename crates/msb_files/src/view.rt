@@ -52,7 +52,7 @@ impl<'a> FileView<'a> {
     }
 
     /// Whether a run has written or removed the path. Takes no memory.
-    pub fn written(&self, path: &str) -> bool
+    pub fn has_act(&self, path: &str) -> bool
         ensures { result ≡ written self.now path.now }
     {
         self.journal.last_act(path).is_some()

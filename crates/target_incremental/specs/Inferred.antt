@@ -1,6 +1,6 @@
 -- What an Output of a task is taken to be where the task is not called. (Incremental builds: output
 -- inference)
-use Rattle.std.specs.Prelude.{ℕ, List, Option, option_map}
+use Rattle.std.specs.Prelude.{List, Option, option_map}
 use Rattle.msb_laws.specs.Words.{Name}
 use Rattle.msb_values.specs.declared.item.Item.{Item}
 use Rattle.task_trait.specs.Params.{param_at}

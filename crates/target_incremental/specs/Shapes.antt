@@ -1,6 +1,6 @@
 -- Which targets take their items one by one: each item is an input, and one output is made of each.
 -- (Incremental builds: transforms of an item list)
-use Rattle.std.specs.Prelude.{ℕ, List, [], ◌∷◌, Bool, true, false, Option, Some, None}
+use Rattle.std.specs.Prelude.{List, [], ◌∷◌, Bool, true, false, Option, Some, None}
 use Rattle.std.specs.Str.{bytes_eq}
 use Rattle.msb_laws.specs.Words.{Name}
 use Rattle.msb_values.specs.Keys.{key_of}

@@ -28,7 +28,7 @@ pub(crate) fn any_is_old(view: &FileView<'_>, inputs: &[Text], outputs: &[Text])
 fn settled_stamp(view: &FileView<'_>, path: &str) -> Option<u64>
     ensures { result ≡ settled_stamp view.now path.now }
 {
-    if view.written(path) {
+    if view.has_act(path) {
         None
     } else {
         view.stamp(path)

@@ -1,6 +1,5 @@
 ghost use Rattle.std.specs.Prelude.{◌≡◌, ◌<◌, length, IfOk, option_copied};
 ghost use Rattle.target_incremental.specs.Decisions.{
-  by_items,
   by_pairs,
   by_shape,
   decision,

@@ -38,7 +38,8 @@ loop-at-preserved c =
           ∙ more None within is refl w.in_default.ensures in (
             ap (λ v. v.items) w.acts-is ∙ (c.loop-at.invariant.0 ∙ ap last_acts next),
             λ path. ap (λ (s : _). list_any (bytes_eq path) s.keys) w.paths-is
-                ∙ (c.loop-at.invariant.1 path ∙ ap (λ ps. list_any (bytes_eq path) (paths_of_acts ps))
+                ∙ (c.loop-at.invariant.1 path
+                ∙ ap (λ ps. list_any (bytes_eq path) (paths_of_acts ps))
                 next),
           ))
     ]

@@ -83,7 +83,7 @@ take_run-returns t c =
 pub take_record-take_runs-requires : goal.take_record-take_runs-requires
 take_record-take_runs-requires t c =
     let one = replay (before c.args.run.now c.args.table.now.finished) in
-    let segments = c.args.record.now.segments in
+    let segments = c.args.run_record.now.segments in
     let n = c.loop-number.number in
     let same : c.as_slice-segment-items.result.now ≡ segments = c.as_slice-segment-items.ensures
     ∙ ap (λ m. m.segments) c.get.ensures in
@@ -101,7 +101,7 @@ pub take_record-loop-number-preserved : goal.take_record-loop-number-preserved
 take_record-loop-number-preserved t c =
     let run = c.args.run.now in
     let one = replay (before run c.args.table.now.finished) in
-    let segments = c.args.record.now.segments in
+    let segments = c.args.run_record.now.segments in
     let n = c.loop-number.number in
     let same : c.as_slice-segment-items.result.now ≡ segments = c.as_slice-segment-items.ensures
     ∙ ap (λ m. m.segments) c.get.ensures in
@@ -111,7 +111,7 @@ take_record-loop-number-preserved t c =
       | take_record-in-File+in_ok-of_record-in-File+in_ok-add-in-File w ↦
           ap (left one run (n + 1) segments) (w.journal-is ∙ (w.in_ok-add-in-File.ensures.ok
           ∙ ap (add c.loop-number.journal)
-          (recorded_is c.args.record.now run n c.segment-item.result w.in-File.field-0
+          (recorded_is c.args.run_record.now run n c.segment-item.result w.in-File.field-0
           w.in_ok-of_record-in-File.field-0 within at w.in-File.is
           w.in_ok-of_record-in-File.ensures)))
           ∙ (act_step one run segments n c.segment-item.result within at w.in-File.field-0
@@ -143,7 +143,8 @@ take_runs-take_run-requires t c =
         goes_on,
         subst (λ o. IsSome o)
             (sym
-            (replays_before table outer run journal c.each_once.ensures.finished_once goes_on there))
+            (replays_before table outer run journal c.each_once.ensures.finished_once goes_on
+            there))
             defined,
       ),
     )

@@ -15,8 +15,8 @@ decreases-take_runs l = 3 * length (before l.outer.now l.table.now.finished)
 abbrev pub invariant-take_record-loop-number : goal.invariant-take_record-loop-number
 invariant-take_record-loop-number l =
     replays (replay (before l.run l.table.finished))
-    (effects_from l.run l.number (drop l.number l.record.segments)) l.journal
-    ≡ replays (replay (before l.run l.table.finished)) (effects_from l.run 0 l.record.segments)
+    (effects_from l.run l.number (drop l.number l.run_record.segments)) l.journal
+    ≡ replays (replay (before l.run l.table.finished)) (effects_from l.run 0 l.run_record.segments)
     l.initial.journal
 
 abbrev pub invariant-take_runs-loop-run : goal.invariant-take_runs-loop-run

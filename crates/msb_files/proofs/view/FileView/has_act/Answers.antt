@@ -2,7 +2,7 @@ use Rattle.std.proofs.Common.{◌≡◌, is_some, ap, ◌∙◌, rules}
 use Rattle.msb_files.specs.Indices.{last_act}
 use Rattle.msb_files.specs.Views.{View, written}
 use Rattle.msb_files.proofs.ViewSteps.{written_by}
-use Rattle.msb_files.proofs.view.FileView.written.Goals as goal
+use Rattle.msb_files.proofs.view.FileView.has_act.Goals as goal
 
 pub returns : goal.returns
 returns c =
