@@ -59,6 +59,10 @@ abbrev pub uncalled : Run → List Param → TaskOutput
 uncalled run params =
     gathered (plan_of run.files (folder_of run.instance.path) run.instance.globals params) []
 
+-- the end of a part with another value
+abbrev pub with_value : {R S : Type 0} → (R → S) → End R → End S
+with_value f E = record { value = f E.value; journal = E.journal; acts = E.acts }
+
 module _ (tools : List ℕ → ToolInput → ToolAnswer) (id : RunId) where
   -- a part and the next one
   pub end-bound : {R S : Type 0} (v : Work R) (next : R → Work S) (j : Journal) (ps : List Act)
@@ -70,6 +74,14 @@ module _ (tools : List ℕ → ToolInput → ToolAnswer) (id : RunId) where
       end-bound (go n) next n (act ∷ ps) E h
   end-bound (uses name input go) next j ps E h = end-bound (go (tools name input)) next j ps E h
   end-bound (calls key keys go) next j ps E h = absurd (cc)
+
+  -- a part whose end is looked at
+  pub end-mapped : {R S : Type 0} (v : Work R) (f : R → S) (j : Journal) (ps : List Act)
+      (E : End S) → end_of tools id (followed_by v (λ x. done (f x))) j ps ≡ Some E →
+      (F : End R) × (end_of tools id v j ps ≡ Some F) × (with_value f F ≡ E)
+  end-mapped v f j ps E h =
+      let x = end-bound v (λ x. done (f x)) j ps E h in
+      (x.0, x.1, some-same (with_value f x.0) E x.2)
 
   pub bound-end : {R S : Type 0} (v : Work R) (next : R → Work S) (j : Journal) (ps : List Act)
       (F : End R) → end_of tools id v j ps ≡ Some F →

@@ -52,16 +52,7 @@ use Rattle.target_incremental.specs.declared.decision.Choice.TheVariants.{Run as
 use Rattle.target_texts.specs.Batched.{target_buckets}
 use Rattle.target_texts.specs.Lists.{Lists}
 use Rattle.target_texts.specs.Returned.{in_target}
-use Rattle.target_body.specs.Work.{
-  Work,
-  done,
-  does,
-  uses,
-  calls,
-  followed_by,
-  unless_stopped,
-  each_in_turn,
-}
+use Rattle.target_body.specs.Work.{Work, done, does, uses, calls, unless_stopped, each_in_turn}
 use Rattle.target_body.specs.States.{
   Run,
   State,
@@ -74,15 +65,7 @@ use Rattle.target_body.specs.States.{
   view_of,
   run_at,
 }
-use Rattle.target_body.specs.Pieces.{
-  lists_at,
-  choice_of,
-  decided,
-  or_failed,
-  Chooser,
-  chosen_or_run,
-  bucket_by,
-}
+use Rattle.target_body.specs.Pieces.{lists_at, choice_of, decided, or_failed, Chooser, bucket_by}
 use Rattle.target_body.specs.Bodies.{buckets_by, work_by}
 use Rattle.request_machine.specs.Worlds.{body_at}
 use Rattle.build_declared.specs.Chosen.{all_of, all_or_nothing}
@@ -109,7 +92,14 @@ use Rattle.build_declared.specs.Pieces.{
 }
 use Rattle.build_declared.specs.Skipped.{TakesLists}
 use Rattle.build_declared.specs.Written.{bytes_in, AnyPath, since}
-use Rattle.build_declared.proofs.Alones.{some-same, end-bound, bound-end, alone-end}
+use Rattle.build_declared.proofs.Alones.{
+  with_value,
+  some-same,
+  end-bound,
+  end-mapped,
+  bound-end,
+  alone-end,
+}
 use Rattle.build_declared.proofs.BucketsGo.{
   Carry,
   EndsAlike,
@@ -134,6 +124,8 @@ use Rattle.build_declared.proofs.RunLists.{
   piece_at,
   PieceGoes,
   in-one,
+  bucket-decided,
+  bucket-whole,
   fine-failed,
   bucket-goes,
   lists-there,
@@ -261,44 +253,9 @@ module _ (tools : List ℕ → ToolInput → ToolAnswer) (id : RunId) (run : Run
           lists_at run bucket x ≡ Ok (Some lists) →
           all_or_nothing lists.inputs lists.outputs ≡ RunAll → PieceEnds lists
       piece-ends lists e same all =
-          let he' : end_of tools id (followed_by (decided run bucket
-          (choice_of mode run lists x) lists.items x) (λ end. done (or_failed end))) s.journal ps
-          ≡ Some E =
-          subst (λ z. end_of tools id (followed_by (unless_stopped (or_stop x z)
-          (chosen_or_run (choice_of mode run) run bucket x))
-          (λ end. done (or_failed end))) s.journal ps ≡ Some E) same he in
-          let hf' : end_of tools id (followed_by (decided run bucket
-          (all_or_nothing lists.inputs lists.outputs) lists.items y)
-          (λ end. done (or_failed end))) t.journal pt ≡ Some F =
-          subst (λ z. end_of tools id (followed_by (unless_stopped (or_stop y z)
-          (chosen_or_run all_of run bucket y))
-          (λ end. done (or_failed end))) t.journal pt ≡ Some F) e hf in
-          let hf2 : end_of tools id (followed_by (decided run bucket RunAll lists.items y)
-          (λ end. done (or_failed end))) t.journal pt ≡ Some F =
-          subst (λ z. end_of tools id (followed_by (decided run bucket z lists.items y)
-          (λ end. done (or_failed end))) t.journal pt ≡ Some F) all hf' in
-          let u = end-bound tools id (decided run bucket (choice_of mode run lists x) lists.items x)
-          (λ end. done (or_failed end)) s.journal ps E he' in
-          let v = end-bound tools id (decided run bucket RunAll lists.items y)
-          (λ end. done (or_failed end)) t.journal pt F hf2 in
-          let ew : record {
-            value = or_failed u.0.value;
-            journal = u.0.journal;
-            acts = u.0.acts;
-          } ≡ E = some-same (record {
-            value = or_failed u.0.value;
-            journal = u.0.journal;
-            acts = u.0.acts;
-          }) E u.2 in
-          let ec : record {
-            value = or_failed v.0.value;
-            journal = v.0.journal;
-            acts = v.0.acts;
-          } ≡ F = some-same (record {
-            value = or_failed v.0.value;
-            journal = v.0.journal;
-            acts = v.0.acts;
-          }) F v.2 in
+          let u = bucket-decided tools id run (choice_of mode run) bucket x lists s.journal ps E
+          same he in
+          let v = bucket-whole tools id run bucket y lists t.journal pt F e all hf in
           record {
             U = u.0;
             V = v.0;
@@ -306,11 +263,11 @@ module _ (tools : List ℕ → ToolInput → ToolAnswer) (id : RunId) (run : Run
             second = v.1;
             first_fine = fine-failed tools id run scope j k a u.0.value
                 (subst (λ (z : End (Result State Stopped)). IsFine tools id run scope j k Good
-                z.value) (sym ew) fe);
+                z.value) (sym u.2) fe);
             second_fine = fine-failed tools id run scope j k a v.0.value
                 (subst (λ (z : End (Result State Stopped)). IsFine tools id run scope j k Good
-                z.value) (sym ec) ff);
-            acts_so = ap (λ (z : End (Result State Stopped)). z.acts) ew;
+                z.value) (sym v.2) ff);
+            acts_so = ap (λ (z : End (Result State Stopped)). z.acts) u.2;
           }
 
       abbrev as_decided : Lists → Piece
@@ -625,22 +582,11 @@ module _ (tools : List ℕ → ToolInput → ToolAnswer) (files : List File) (ta
         let c = r.never_large k (alike-self files k) all_of
         (λ lists s. all-may tools id run lists
         (all_or_nothing lists.inputs lists.outputs) refl) in
-        let x = end-bound tools id (buckets_by (choice_of mode run) run scope s0)
-        (λ end. done (outcome_of end)) j [] w.0 w.1 in
-        let y = end-bound tools id (buckets_by all_of run scope t0)
-        (λ end. done (outcome_of end)) k [] c.0 c.1 in
-        let ox : outcome_of x.0.value ≡ w.0.value =
-        ap (λ (z : End Outcome). z.value) (some-same (record {
-          value = outcome_of x.0.value;
-          journal = x.0.journal;
-          acts = x.0.acts;
-        }) w.0 x.2) in
-        let oy : outcome_of y.0.value ≡ c.0.value =
-        ap (λ (z : End Outcome). z.value) (some-same (record {
-          value = outcome_of y.0.value;
-          journal = y.0.journal;
-          acts = y.0.acts;
-        }) c.0 y.2) in
+        let x = end-mapped tools id (buckets_by (choice_of mode run) run scope s0) outcome_of
+        j [] w.0 w.1 in
+        let y = end-mapped tools id (buckets_by all_of run scope t0) outcome_of k [] c.0 c.1 in
+        let ox : outcome_of x.0.value ≡ w.0.value = ap (λ (z : End Outcome). z.value) x.2 in
+        let oy : outcome_of y.0.value ≡ c.0.value = ap (λ (z : End Outcome). z.value) y.2 in
         let hx : end_of tools id (each_in_turn (bucket_by (choice_of mode run) run scope) found s0)
         j [] ≡ Some x.0 =
         sym (ap (λ z. end_of tools id (unless_stopped (or_failed (or_stop s0 z))
@@ -651,7 +597,7 @@ module _ (tools : List ℕ → ToolInput → ToolAnswer) (files : List File) (ta
         sym (ap (λ z. end_of tools id (unless_stopped (or_failed (or_stop t0 z))
         (λ found. each_in_turn (bucket_by all_of run scope) found t0)) k []) ec) ∙ y.1 in
         let work : end_of tools id (work_by (choice_of mode run) run scope j) j []
-        ≡ Some (record { value = outcome_of x.0.value; journal = x.0.journal; acts = x.0.acts }) =
+        ≡ Some (with_value outcome_of x.0) =
         bound-end tools id (buckets_by (choice_of mode run) run scope s0)
         (λ end. done (outcome_of end)) j [] x.0 x.1 in
         let counted = counters tools id run scope j k a fw fc mode (piece-goes-in mode) takes
@@ -667,11 +613,8 @@ module _ (tools : List ℕ → ToolInput → ToolAnswer) (files : List File) (ta
         record {
           outcome = outcome_of x.0.value;
           total = x.0.acts;
-          ends = alone-end tools id (work_by (choice_of mode run) run scope j) j [] (record {
-            value = outcome_of x.0.value;
-            journal = x.0.journal;
-            acts = x.0.acts;
-          }) work;
+          ends = alone-end tools id (work_by (choice_of mode run) run scope j) j []
+              (with_value outcome_of x.0) work;
           counter = subst (λ l. HasCounterpart tools id run scope j k a fw fc mode x.0.acts l q)
               listed counted;
         }

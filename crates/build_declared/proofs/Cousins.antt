@@ -47,7 +47,8 @@ use Rattle.msb_values.specs.declared.note.Note.TheVariants.{Low, Message, Warnin
 use Rattle.build_world.specs.declared.fault.EvalFault.{EvalFault}
 use Rattle.build_incremental.specs.Alike.{AlikeJournals}
 use Rattle.element_texts.specs.Contexts.{in_bucket, item_context}
-use Rattle.msb_items.specs.TargetGroups.{group_changes, all_applied}
+use Rattle.msb_items.specs.TargetGroups.{group_changes}
+use Rattle.msb_values.specs.Changes.{all_applied}
 use Rattle.task_trait.specs.Failures.{failed as failed_output}
 use Rattle.task_trait.specs.declared.failures.Failure.{Failure}
 use Rattle.task_trait.specs.declared.failures.Failure.TheVariants.{UnknownTask}
@@ -138,8 +139,10 @@ use Rattle.build_declared.specs.Declared.{IsNotTooLarge}
 use Rattle.build_declared.specs.Written.{bytes_in, AnyPath}
 use Rattle.build_declared.specs.Ends.{End, end_of}
 use Rattle.build_declared.proofs.Alones.{
+  with_value,
   some-same,
   end-bound,
+  end-mapped,
   KeepsNotes,
   keeps-each,
   msbuild-end,
@@ -553,44 +556,20 @@ module _ (tools : List ℕ → ToolInput → ToolAnswer) (id : RunId) (run : Run
       (E : End (State × TaskOutput)) → end_of tools id (given s output) l ps ≡ Some E →
       E.value.1 ≡ output
   given-output output s l ps E h =
-      let x = end-bound tools id (all_acted output.acts s)
-      (λ after. done (after, output)) l ps E h in
-      ap (λ (z : End (State × TaskOutput)). z.value.1)
-      (sym (some-same (record {
-        value = (x.0.value, output);
-        journal = x.0.journal;
-        acts =
-            x.0.acts;
-      }) E x.2))
+      let x = end-mapped tools id (all_acted output.acts s)
+      (λ after. (after, output)) l ps E h in
+      ap (λ (z : End (State × TaskOutput)). z.value.1) (sym x.2)
 
   given-both : (output : TaskOutput) (s t : State) →
       AnswerBoth s t (given s output) (given t output)
   given-both output s t ps pt c E F he hf fe ff =
-      let x = end-bound tools id (all_acted output.acts s)
-      (λ after. done (after, output)) s.journal ps E he in
-      let y = end-bound tools id (all_acted output.acts t)
-      (λ after. done (after, output)) t.journal pt F hf in
+      let x = end-mapped tools id (all_acted output.acts s)
+      (λ after. (after, output)) s.journal ps E he in
+      let y = end-mapped tools id (all_acted output.acts t)
+      (λ after. (after, output)) t.journal pt F hf in
       let b = acted-both output.acts s t ps pt c x.0 y.0 x.1 y.1 in
-      let e : record { value = (x.0.value, output); journal = x.0.journal; acts = x.0.acts } ≡ E =
-      some-same (record {
-        value = (x.0.value, output);
-        journal = x.0.journal;
-        acts =
-            x.0.acts;
-      }) E x.2 in
-      let g : record { value = (y.0.value, output); journal = y.0.journal; acts = y.0.acts } ≡ F =
-      some-same (record {
-        value = (y.0.value, output);
-        journal = y.0.journal;
-        acts =
-            y.0.acts;
-      }) F y.2 in
-      subst (λ z. AnswerEnd ps pt z F) e (subst (AnswerEnd ps pt (record {
-        value =
-            (x.0.value, output);
-        journal = x.0.journal;
-        acts = x.0.acts;
-      })) g
+      subst (λ z. AnswerEnd ps pt z F) x.2
+      (subst (AnswerEnd ps pt (with_value (λ after. (after, output)) x.0)) y.2
       (record {
         cousins = b.cousins;
         output = refl;
@@ -801,46 +780,17 @@ module _ (tools : List ℕ → ToolInput → ToolAnswer) (id : RunId) (run : Run
   with-both e gives bucket s t None = over-both s t (Ok s) (Ok t) (λ ps pt c. c) refl refl
   with-both e gives bucket s t (Some ready) = λ ps pt c E F he hf fe ff.
       let name = key_of (name_of e.node) in
-      let x = end-bound tools id (answered_if name run s e ready.1)
-      (λ x. done (answered_to run e gives bucket ready.0 x)) s.journal ps E he in
-      let y = end-bound tools id (answered_if name run t e ready.1)
-      (λ x. done (answered_to run e gives bucket ready.0 x)) t.journal pt F hf in
-      let ex : record {
-        value = answered_to run e gives bucket ready.0 x.0.value;
-        journal =
-            x.0.journal;
-        acts = x.0.acts;
-      } ≡ E = some-same (record {
-        value =
-            answered_to run e gives bucket ready.0 x.0.value;
-        journal = x.0.journal;
-        acts =
-            x.0.acts;
-      }) E x.2 in
-      let ey : record {
-        value = answered_to run e gives bucket ready.0 y.0.value;
-        journal =
-            y.0.journal;
-        acts = y.0.acts;
-      } ≡ F = some-same (record {
-        value =
-            answered_to run e gives bucket ready.0 y.0.value;
-        journal = y.0.journal;
-        acts =
-            y.0.acts;
-      }) F y.2 in
+      let x = end-mapped tools id (answered_if name run s e ready.1)
+      (answered_to run e gives bucket ready.0) s.journal ps E he in
+      let y = end-mapped tools id (answered_if name run t e ready.1)
+      (answered_to run e gives bucket ready.0) t.journal pt F hf in
       let fx : Fine x.0.value.1.notes = answered-notes run e gives bucket ready.0 x.0.value
-      (subst (λ (z : End (Result State Stopped)). Fine (progress_in z.value).notes) (sym ex) fe) in
+      (subst (λ (z : End (Result State Stopped)). Fine (progress_in z.value).notes) (sym x.2) fe) in
       let fy : Fine y.0.value.1.notes = answered-notes run e gives bucket ready.0 y.0.value
-      (subst (λ (z : End (Result State Stopped)). Fine (progress_in z.value).notes) (sym ey) ff) in
+      (subst (λ (z : End (Result State Stopped)). Fine (progress_in z.value).notes) (sym y.2) ff) in
       let b = if-both name e ready.1 s t ps pt c x.0 y.0 x.1 y.1 fx fy in
-      subst (λ z. BothEnd ps pt z F) ex (subst (BothEnd ps pt (record {
-        value =
-            answered_to run e gives bucket ready.0 x.0.value;
-        journal = x.0.journal;
-        acts =
-            x.0.acts;
-      })) ey (record {
+      subst (λ z. BothEnd ps pt z F) x.2
+      (subst (BothEnd ps pt (with_value (answered_to run e gives bucket ready.0) x.0)) y.2 (record {
         cousins = subst (λ o. CousinEnd (answered_to run e gives bucket ready.0 x.0.value)
             (answered_to run e gives bucket ready.0 (y.0.value.0, o)) x.0.acts y.0.acts) b.output
             (answered-to e gives bucket ready.0 x.0.value.0 y.0.value.0 x.0.value.1 x.0.acts
@@ -928,32 +878,13 @@ module _ (tools : List ℕ → ToolInput → ToolAnswer) (id : RunId) (run : Run
       ((r : Result State Stopped) → Fine (progress_in (g r)).notes → Fine (progress_in r).notes) →
       Both s t (followed_by v (λ end. done (f end))) (followed_by u (λ end. done (g end)))
   then-both s t v u f g h m jf jg nf ng ps pt c E F he hf fe ff =
-      let x = end-bound tools id v (λ end. done (f end)) s.journal ps E he in
-      let y = end-bound tools id u (λ end. done (g end)) t.journal pt F hf in
-      let ex : record { value = f x.0.value; journal = x.0.journal; acts = x.0.acts } ≡ E =
-      some-same (record {
-        value = f x.0.value;
-        journal = x.0.journal;
-        acts =
-            x.0.acts;
-      }) E x.2 in
-      let ey : record { value = g y.0.value; journal = y.0.journal; acts = y.0.acts } ≡ F =
-      some-same (record {
-        value = g y.0.value;
-        journal = y.0.journal;
-        acts =
-            y.0.acts;
-      }) F y.2 in
+      let x = end-mapped tools id v f s.journal ps E he in
+      let y = end-mapped tools id u g t.journal pt F hf in
       let b = h ps pt c x.0 y.0 x.1 y.1 (nf x.0.value
-      (subst (λ (z : End (Result State Stopped)). Fine (progress_in z.value).notes) (sym ex) fe))
+      (subst (λ (z : End (Result State Stopped)). Fine (progress_in z.value).notes) (sym x.2) fe))
       (ng y.0.value (subst (λ (z : End (Result State Stopped)). Fine (progress_in z.value).notes)
-      (sym ey) ff)) in
-      subst (λ z. BothEnd ps pt z F) ex (subst (BothEnd ps pt (record {
-        value =
-            f x.0.value;
-        journal = x.0.journal;
-        acts = x.0.acts;
-      })) ey (record {
+      (sym y.2) ff)) in
+      subst (λ z. BothEnd ps pt z F) x.2 (subst (BothEnd ps pt (with_value f x.0)) y.2 (record {
         cousins = m x.0.value y.0.value x.0.acts y.0.acts b.cousins;
         w_step = jf x.0.value ∙ b.w_step;
         c_step = jg y.0.value ∙ b.c_step;

@@ -56,8 +56,8 @@ use Rattle.target_incremental.specs.declared.decision.Choice.TheVariants.{
 }
 use Rattle.target_texts.specs.Lists.{Lists}
 use Rattle.target_body.specs.Work.{Work, done, followed_by, unless_stopped, each_in_turn}
-use Rattle.target_body.specs.States.{Run, State, Stopped, entered, or_stop, progress_at}
-use Rattle.target_body.specs.Pieces.{lists_at, choice_of, decided, or_failed, chosen_or_run}
+use Rattle.target_body.specs.States.{Run, State, Stopped, entered, progress_at}
+use Rattle.target_body.specs.Pieces.{lists_at, choice_of, or_failed}
 use Rattle.build_declared.proofs.PartEnds.{progress_in}
 use Rattle.build_declared.specs.Chosen.{all_of, all_or_nothing}
 use Rattle.build_declared.specs.Written.{bytes_in, AnyPath}
@@ -65,7 +65,7 @@ use Rattle.build_declared.specs.Ends.{End, end_of}
 use Rattle.build_declared.specs.NoOlder.{PieceIsNoOlder}
 use Rattle.build_declared.specs.Pieces.{Piece, one_if, piece_if, then_pieces, pieces_among}
 use Rattle.build_declared.specs.Skipped.{IsIdle, one_if_up, up_to_date}
-use Rattle.build_declared.proofs.Alones.{some-same, end-bound, bound-end, KeepsNotes}
+use Rattle.build_declared.proofs.Alones.{with_value, some-same, end-bound, KeepsNotes}
 use Rattle.build_declared.proofs.BucketsGo.{
   Carry,
   carry-alike,
@@ -82,7 +82,7 @@ use Rattle.build_declared.proofs.BucketsGo.{
 use Rattle.build_declared.proofs.EmptyBuckets.{IsEmpty, nothing-chosen}
 use Rattle.build_declared.proofs.NewPieces.{new-skips}
 use Rattle.build_declared.proofs.PieceSkips.{first-output}
-use Rattle.build_declared.proofs.RunLists.{Said, piece_at}
+use Rattle.build_declared.proofs.RunLists.{Said, piece_at, bucket-whole}
 use Rattle.build_declared.proofs.SkippedPieces.{skip-kept}
 use Rattle.build_declared.proofs.SkippedWork.{
   EndsBy,
@@ -259,19 +259,9 @@ module _ (tools : List ℕ → ToolInput → ToolAnswer) (id : RunId) (run : Run
           journal = w.0.journal;
           acts = w.1;
         } in
-        let hf1 : end_of tools id (followed_by (decided run bucket
-        (all_or_nothing lists.inputs lists.outputs) lists.items y)
-        (λ end. done (or_failed end))) t.journal pt ≡ Some F =
-        subst (λ z. end_of tools id (followed_by (unless_stopped (or_stop y z)
-        (chosen_or_run all_of run bucket y))
-        (λ end. done (or_failed end))) t.journal pt ≡ Some F) lc hf in
-        let hf2 : end_of tools id (followed_by (decided run bucket RunAll lists.items y)
-        (λ end. done (or_failed end))) t.journal pt ≡ Some F =
-        subst (λ z. end_of tools id (followed_by (decided run bucket z lists.items y)
-        (λ end. done (or_failed end))) t.journal pt ≡ Some F) all hf1 in
-        let f : whole ≡ F = some-same whole F (sym (bound-end tools id
-        (decided run bucket RunAll lists.items y) (λ end. done (or_failed end)) t.journal pt
-        whole w.2) ∙ hf2) in
+        let v = bucket-whole tools id run bucket y lists t.journal pt F lc all hf in
+        let f : whole ≡ F =
+        ap (with_value or_failed) (some-same whole v.0 (sym w.2 ∙ v.1)) ∙ v.2 in
         let e : record { value = over.end; journal = s.journal; acts = [] } ≡ E =
         some-same (record { value = over.end; journal = s.journal; acts = [] }) E
         (sym (ap (λ v. end_of tools id v s.journal []) over.at_once) ∙ he) in

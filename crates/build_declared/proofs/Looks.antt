@@ -32,7 +32,7 @@ use Rattle.result_cache.specs.Journal.{Journal}
 use Rattle.result_cache.proofs.RunTests.{tells, clash, or_left, or_cases}
 use Rattle.build_incremental.specs.Alike.{AlikeJournals}
 use Rattle.msb_files.specs.Views as views
-use Rattle.msb_files.specs.Views.{View, content}
+use Rattle.msb_files.specs.Views.{View}
 use Rattle.msb_files.proofs.PathLaws.{paths_rise, paths_there}
 use Rattle.task_kit.specs.Foreign.{foreign_input}
 use Rattle.task_kit.proofs.SameViews.{answers-same, input-same}

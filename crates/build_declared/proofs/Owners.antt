@@ -99,7 +99,7 @@ use Rattle.build_declared.specs.Pieces.{
   then_pieces,
 }
 use Rattle.build_declared.specs.Written.{bytes_in, AnyPath, since}
-use Rattle.build_declared.proofs.Alones.{some-same, end-bound, bound-end, alone-end}
+use Rattle.build_declared.proofs.Alones.{some-same, end-bound, end-mapped, bound-end, alone-end}
 use Rattle.build_declared.proofs.BucketsGo.{buckets-go, outcomes-alike}
 use Rattle.build_declared.proofs.Counterparts.{
   NeverNone,
@@ -413,22 +413,11 @@ module _ (tools : List ℕ → ToolInput → ToolAnswer) (files : List File) (ta
       let c = r.never_large k (alike-self files k) all_of
       (λ lists s. all-may tools id run lists
       (all_or_nothing lists.inputs lists.outputs) refl) in
-      let x = end-bound tools id (buckets_by (choice_of mode run) run scope from_w)
-      (λ end. done (outcome_of end)) j [] w.0 w.1 in
-      let y = end-bound tools id (buckets_by all_of run scope from_c)
-      (λ end. done (outcome_of end)) k [] c.0 c.1 in
-      let ox : outcome_of x.0.value ≡ w.0.value =
-      ap (λ (z : End Outcome). z.value) (some-same (record {
-        value = outcome_of x.0.value;
-        journal = x.0.journal;
-        acts = x.0.acts;
-      }) w.0 x.2) in
-      let oy : outcome_of y.0.value ≡ c.0.value =
-      ap (λ (z : End Outcome). z.value) (some-same (record {
-        value = outcome_of y.0.value;
-        journal = y.0.journal;
-        acts = y.0.acts;
-      }) c.0 y.2) in
+      let x = end-mapped tools id (buckets_by (choice_of mode run) run scope from_w) outcome_of
+      j [] w.0 w.1 in
+      let y = end-mapped tools id (buckets_by all_of run scope from_c) outcome_of k [] c.0 c.1 in
+      let ox : outcome_of x.0.value ≡ w.0.value = ap (λ (z : End Outcome). z.value) x.2 in
+      let oy : outcome_of y.0.value ≡ c.0.value = ap (λ (z : End Outcome). z.value) y.2 in
       let hx : end_of tools id
       (each_in_turn (bucket_by (choice_of mode run) run scope) found from_w) j [] ≡ Some x.0 =
       sym (ap (λ z. end_of tools id (unless_stopped (or_failed (or_stop from_w z))

@@ -70,7 +70,9 @@ use Rattle.target_body.specs.Pieces.{
   decided,
   as_failed,
   or_failed,
+  Chooser,
   chosen_or_run,
+  in_bucket,
   bucket_by,
 }
 use Rattle.target_body.specs.Bodies.{body, buckets_by, work_by, body_by}
@@ -88,7 +90,7 @@ use Rattle.build_declared.specs.Ends.{End, end_of}
 use Rattle.build_declared.specs.Fresh.{PieceIsFresh}
 use Rattle.build_declared.specs.Pieces.{Piece, one_if, piece_if, pieces_among, pieces_in}
 use Rattle.build_declared.specs.Skipped.{TakesLists}
-use Rattle.build_declared.proofs.Alones.{some-same, end-bound, bound-end, alone-end}
+use Rattle.build_declared.proofs.Alones.{with_value, some-same, end-mapped, bound-end, alone-end}
 use Rattle.build_declared.proofs.BucketsGo.{
   Carry,
   EndsAlike,
@@ -133,6 +135,35 @@ pub never : (inputs outputs : List (List ℕ)) (choice : Choice) →
 never [] outputs choice e h = subst IsOther (sym e) h
 never (input ∷ inputs) [] choice e h = subst IsOther (sym e) h
 never (input ∷ inputs) (output ∷ outputs) choice e h = subst IsOther (sym e) h
+
+-- the end of a bucket that has lists is that of its piece, as is chosen for it
+pub bucket-decided : (tools : List ℕ → ToolInput → ToolAnswer) (id : RunId) (run : Run)
+    (choose : Chooser) (bucket : Bucket) (s : State) (lists : Lists) (j : Journal) (ps : List Act)
+    (E : End (Result State Stopped)) → lists_at run bucket s ≡ Ok (Some lists) →
+    end_of tools id (in_bucket choose run bucket s) j ps ≡ Some E →
+    (U : End (Result State Stopped))
+    × (end_of tools id (decided run bucket (choose lists s) lists.items s) j ps ≡ Some U)
+    × (with_value or_failed U ≡ E)
+bucket-decided tools id run choose bucket s lists j ps E e h =
+    end-mapped tools id (decided run bucket (choose lists s) lists.items s) or_failed j ps E
+    (subst (λ z. end_of tools id (followed_by (unless_stopped (or_stop s z)
+    (chosen_or_run choose run bucket s)) (λ end. done (or_failed end))) j ps ≡ Some E) e h)
+
+-- the same in a clean build, where all of it runs
+pub bucket-whole : (tools : List ℕ → ToolInput → ToolAnswer) (id : RunId) (run : Run)
+    (bucket : Bucket) (s : State) (lists : Lists) (j : Journal) (ps : List Act)
+    (E : End (Result State Stopped)) → lists_at run bucket s ≡ Ok (Some lists) →
+    all_or_nothing lists.inputs lists.outputs ≡ RunAll →
+    end_of tools id (in_bucket all_of run bucket s) j ps ≡ Some E →
+    (U : End (Result State Stopped))
+    × (end_of tools id (decided run bucket RunAll lists.items s) j ps ≡ Some U)
+    × (with_value or_failed U ≡ E)
+bucket-whole tools id run bucket s lists j ps E e all h =
+    let v = bucket-decided tools id run all_of bucket s lists j ps E e h in (
+      v.0,
+      subst (λ z. end_of tools id (decided run bucket z lists.items s) j ps ≡ Some v.0) all v.1,
+      v.2,
+    )
 
 module _ (tools : List ℕ → ToolInput → ToolAnswer) (id : RunId) (run : Run) (scope : Scope)
     (j k : Journal) (a : AlikeJournals (bytes_in run.files) AnyPath j k) where
@@ -235,68 +266,23 @@ module _ (tools : List ℕ → ToolInput → ToolAnswer) (id : RunId) (run : Run
             let same : lists_at run bucket x ≡ Ok (Some lists) =
             lists-same tools id run scope j k a bucket x y ps pt
             (entered-pair tools id run scope j k a bucket s t ps pt c) ∙ e in
-            let he' : end_of tools id (followed_by (decided run bucket
-            (choice_of mode run lists x) lists.items x) (λ end. done (or_failed end))) s.journal ps
-            ≡ Some E =
-            subst (λ z. end_of tools id (followed_by (unless_stopped (or_stop x z)
-            (chosen_or_run (choice_of mode run) run bucket x))
-            (λ end. done (or_failed end))) s.journal ps ≡ Some E) same he in
-            let hf' : end_of tools id (followed_by (decided run bucket
-            (all_or_nothing lists.inputs lists.outputs) lists.items y)
-            (λ end. done (or_failed end))) t.journal pt ≡ Some F =
-            subst (λ z. end_of tools id (followed_by (unless_stopped (or_stop y z)
-            (chosen_or_run all_of run bucket y))
-            (λ end. done (or_failed end))) t.journal pt ≡ Some F) e hf in
-            let hf2 : end_of tools id (followed_by (decided run bucket RunAll lists.items y)
-            (λ end. done (or_failed end))) t.journal pt ≡ Some F =
-            subst (λ z. end_of tools id (followed_by (decided run bucket z lists.items y)
-            (λ end. done (or_failed end))) t.journal pt ≡ Some F) all hf' in
-            let u = end-bound tools id
-            (decided run bucket (choice_of mode run lists x) lists.items x)
-            (λ end. done (or_failed end)) s.journal ps E he' in
-            let v = end-bound tools id (decided run bucket RunAll lists.items y)
-            (λ end. done (or_failed end)) t.journal pt F hf2 in
-            let ew : record {
-              value = or_failed u.0.value;
-              journal = u.0.journal;
-              acts =
-                  u.0.acts;
-            } ≡ E = some-same (record {
-              value = or_failed u.0.value;
-              journal =
-                  u.0.journal;
-              acts = u.0.acts;
-            }) E u.2 in
-            let ec : record {
-              value = or_failed v.0.value;
-              journal = v.0.journal;
-              acts =
-                  v.0.acts;
-            } ≡ F = some-same (record {
-              value = or_failed v.0.value;
-              journal =
-                  v.0.journal;
-              acts = v.0.acts;
-            }) F v.2 in
+            let u = bucket-decided tools id run (choice_of mode run) bucket x lists s.journal ps E
+            same he in
+            let v = bucket-whole tools id run bucket y lists t.journal pt F e all hf in
             let fu : IsFine tools id run scope j k Fine u.0.value =
             fine-failed u.0.value (subst (λ (z : End (Result State Stopped)).
-            IsFine tools id run scope j k Fine z.value) (sym ew) fe) in
+            IsFine tools id run scope j k Fine z.value) (sym u.2) fe) in
             let fv : IsFine tools id run scope j k Fine v.0.value =
             fine-failed v.0.value (subst (λ (z : End (Result State Stopped)).
-            IsFine tools id run scope j k Fine z.value) (sym ec) ff) in
+            IsFine tools id run scope j k Fine z.value) (sym v.2) ff) in
             let there : In (piece_at bucket lists t pt)
             (piece_if bucket y pt (lists_at run bucket y)) =
             subst (λ z. In (piece_at bucket lists t pt) (piece_if bucket y pt z)) (sym e)
             (in-one (piece_at bucket lists t pt) lists.inputs lists.outputs all) in
             let g = goes bucket lists s t ps pt c same e all u.0 v.0 u.1 v.1 fu fv
             (so (piece_at bucket lists t pt) there) in
-            subst (λ z. GoAlike tools id run scope j k z F) ew
-            (subst (GoAlike tools id run scope j k (record {
-              value =
-                  or_failed u.0.value;
-              journal = u.0.journal;
-              acts = u.0.acts;
-            })) ec
+            subst (λ z. GoAlike tools id run scope j k z F) u.2
+            (subst (GoAlike tools id run scope j k (with_value or_failed u.0)) v.2
             (failed-goes u.0 v.0 g))
 
         piece : (lists : Lists) → lists_at run bucket (entered scope bucket t) ≡ Ok (Some lists) →
@@ -483,24 +469,11 @@ module _ (tools : List ℕ → ToolInput → ToolAnswer) (files : List File)
         let c = r.never_large k (alike-self files k) all_of
         (λ lists s. all-may tools id run lists
         (all_or_nothing lists.inputs lists.outputs) refl) in
-        let x = end-bound tools id (buckets_by (choice_of Incremental run) run scope s0)
-        (λ end. done (outcome_of end)) j [] w.0 w.1 in
-        let y = end-bound tools id (buckets_by all_of run scope t0)
-        (λ end. done (outcome_of end)) k [] c.0 c.1 in
-        let ox : outcome_of x.0.value ≡ w.0.value =
-        ap (λ (z : End Outcome). z.value) (some-same (record {
-          value =
-              outcome_of x.0.value;
-          journal = x.0.journal;
-          acts = x.0.acts;
-        }) w.0 x.2) in
-        let oy : outcome_of y.0.value ≡ c.0.value =
-        ap (λ (z : End Outcome). z.value) (some-same (record {
-          value =
-              outcome_of y.0.value;
-          journal = y.0.journal;
-          acts = y.0.acts;
-        }) c.0 y.2) in
+        let x = end-mapped tools id (buckets_by (choice_of Incremental run) run scope s0) outcome_of
+        j [] w.0 w.1 in
+        let y = end-mapped tools id (buckets_by all_of run scope t0) outcome_of k [] c.0 c.1 in
+        let ox : outcome_of x.0.value ≡ w.0.value = ap (λ (z : End Outcome). z.value) x.2 in
+        let oy : outcome_of y.0.value ≡ c.0.value = ap (λ (z : End Outcome). z.value) y.2 in
         record {
           E = x.0;
           F = y.0;

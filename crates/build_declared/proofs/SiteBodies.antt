@@ -7,7 +7,6 @@ use Rattle.msb_values.specs.declared.scope.Scope.{Scope}
 use Rattle.file_store.specs.declared.tree.File.{File}
 use Rattle.target_order.specs.Visit.{Question, condition, depends, body, End, order}
 use Rattle.target_order.specs.declared.asks.OrderAnswer.{OrderAnswer}
-use Rattle.target_order.specs.declared.asks.OrderAnswer.TheVariants.{Truth, Names}
 use Rattle.build_world.specs.Instances.{Instance}
 use Rattle.build_world.specs.declared.fault.EvalFault.{EvalFault}
 use Rattle.result_cache.specs.declared.run.RunId.{RunId}
@@ -18,18 +17,18 @@ use Rattle.build_incremental.proofs.BodyFacts.{HasBody}
 use Rattle.build_incremental.proofs.Demands.{Tells}
 use Rattle.task_trait.specs.declared.tools.ToolAnswer.{ToolAnswer}
 use Rattle.task_trait.specs.declared.tools.ToolInput.{ToolInput}
-use Rattle.request_machine.specs.declared.stage.RequestScope.{RequestScope}
 use Rattle.request_machine.specs.Requests.{
   Project,
-  holds_of,
-  depends_of,
   target_at,
   all_targets,
   has_no_targets,
 }
 use Rattle.request_machine.specs.Walk.{
+  RequestScope,
   run_of,
-  answer_of,
+  run_answer,
+  condition_answer,
+  depends_answer,
   after_run,
   nothing_ran,
   Site,
@@ -55,18 +54,16 @@ module _ (B : Site → RunId → Journal → Body ToolInput ToolAnswer → Type 
       Tells B (walk p key bodies tree s j) j
   walk-tells (ends end) s j = tt
   walk-tells (asks (condition name) go) s j =
-      or-tells (holds_of p s.scope j (target_at p name))
-      (λ holds. walk p key bodies (go (Truth holds)) s j) j
-      (λ holds. walk-tells (go (Truth holds)) s j)
+      or-tells (condition_answer p s j name) (λ answer. walk p key bodies (go answer) s j) j
+      (λ answer. walk-tells (go answer) s j)
   walk-tells (asks (depends name) go) s j =
-      or-tells (depends_of p s.scope (target_at p name))
-      (λ names. walk p key bodies (go (Names names)) s j) j
-      (λ names. walk-tells (go (Names names)) s j)
+      or-tells (depends_answer p s name) (λ answer. walk p key bodies (go answer) s j) j
+      (λ answer. walk-tells (go answer) s j)
   walk-tells (asks (body name) go) s j = (
     each name s.scope j,
     λ made then.
         let after : RequestScope = after_run s name made in
-        or-tells (answer_of p made.ok after then name)
+        or-tells (run_answer p made.ok after then name)
         (λ answer. walk p key bodies (go answer) after then) then
         (λ answer. walk-tells (go answer) after then),
   )

@@ -8,7 +8,6 @@ use Rattle.std.proofs.Common.{
   List,
   [],
   ◌∷◌,
-  ◌++◌,
   Option,
   None,
   Some,
@@ -55,7 +54,6 @@ use Rattle.build_incremental.proofs.Demands.{Tells, told-meaning, told-journal}
 use Rattle.build_incremental.proofs.Meanings.{weaker-meaning}
 use Rattle.task_trait.specs.declared.tools.ToolAnswer.{ToolAnswer}
 use Rattle.task_trait.specs.declared.tools.ToolInput.{ToolInput}
-use Rattle.request_machine.specs.declared.stage.RequestScope.{RequestScope}
 use Rattle.request_machine.specs.Requests.{
   Project,
   target_at,
@@ -63,7 +61,7 @@ use Rattle.request_machine.specs.Requests.{
   has_no_targets,
   unevaluated,
 }
-use Rattle.request_machine.specs.Walk.{run_of, nothing_ran, Site, walk, walk_unless}
+use Rattle.request_machine.specs.Walk.{RequestScope, run_of, nothing_ran, Site, walk, walk_unless}
 use Rattle.request_machine.specs.Worlds.{
   root_of,
   world_of,

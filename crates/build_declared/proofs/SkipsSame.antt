@@ -39,7 +39,8 @@ use Rattle.build_world.specs.Elements.{At, children_of}
 use Rattle.build_world.specs.declared.fault.EvalFault.{EvalFault}
 use Rattle.build_incremental.specs.Alike.{AlikeJournals}
 use Rattle.element_texts.specs.Contexts.{ElementContext, in_bucket, item_context}
-use Rattle.msb_items.specs.TargetGroups.{group_changes, all_applied}
+use Rattle.msb_items.specs.TargetGroups.{group_changes}
+use Rattle.msb_values.specs.Changes.{all_applied}
 use Rattle.msb_files.specs.Views as views
 use Rattle.msb_files.specs.Views.{View}
 use Rattle.task_trait.specs.declared.tools.Param.{Param}
@@ -102,7 +103,7 @@ use Rattle.target_body.specs.Pieces.{word_of, decided}
 use Rattle.build_declared.proofs.PartEnds.{progress_in}
 use Rattle.build_declared.specs.Written.{bytes_in, AnyPath}
 use Rattle.build_declared.specs.Ends.{End, end_of}
-use Rattle.build_declared.proofs.Alones.{some-same, end-bound}
+use Rattle.build_declared.proofs.Alones.{some-same, end-bound, end-mapped}
 use Rattle.build_incremental.proofs.Numbered.{numbered}
 use Rattle.build_incremental.specs.SideBySide.{HasNotActed}
 use Rattle.build_incremental.specs.Alike.{seen}
@@ -421,25 +422,13 @@ module _ (tools : List ℕ → ToolInput → ToolAnswer) (id : RunId) (r : Run) 
       )
       go (Ok (Some ready)) h c =
           let name = key_of (name_of e.node) in
-          let x = end-bound tools id (answered_if name r t e ready.1)
-          (λ x. done (answered_to r e true bucket ready.0 x)) t.journal ps E h in
+          let x = end-mapped tools id (answered_if name r t e ready.1)
+          (answered_to r e true bucket ready.0) t.journal ps E h in
           let held : bare x.0.value.0 ≡ bare t = if-leaves tools id r name e ready.1 t t.journal ps
           x.0 x.1 in
           let sx = if-steps tools id r k fc name e ready.1 t ps s.is x.0 x.1 in
-          let ex : record {
-            value = answered_to r e true bucket ready.0 x.0.value;
-            journal =
-                x.0.journal;
-            acts = x.0.acts;
-          } ≡ E = some-same (record {
-            value =
-                answered_to r e true bucket ready.0 x.0.value;
-            journal = x.0.journal;
-            acts =
-                x.0.acts;
-          }) E x.2 in
           let tx : InTree x.0.acts = subst (λ (z : End (Result State Stopped)). InTree z.acts)
-          (sym ex) tree in
+          (sym x.2) tree in
           let there = tasks-so x.0.value.0 x.0.acts (stands-on s sx) tx sc
           (ap (λ (z : State). z.task_scope) held ∙ hs) in
           let called : Called = record { element = e; params = ready.1; answer = x.0.value.1 } in
@@ -451,7 +440,7 @@ module _ (tools : List ℕ → ToolInput → ToolAnswer) (id : RunId) (r : Run) 
           ∙ outputs-by (in_bucket (place sc) bucket) x.0.value.1.outputs ready.1
           (children_of e) (λ o i. (rg o i).1) in
           let value : answered_to r e true bucket ready.0 x.0.value ≡ Ok after =
-          ap (λ (z : End (Result State Stopped)). z.value) ex ∙ ev in
+          ap (λ (z : End (Result State Stopped)). z.value) x.2 ∙ ev in
           subst (GaveAll t after) same (answered-gave t x.0.value ready.0
           (outputs (call_context r x.0.value.0 bucket) x.0.value.1.outputs e) after held value)
 
@@ -629,25 +618,13 @@ module _ (tools : List ℕ → ToolInput → ToolAnswer) (id : RunId) (r : Run) 
       ReturnsGiven tools id r c) → SkippedWork (child r Skip e z) after
   child-aside e z t ps a s E he after ev tree given =
       let kind = kind_of (name_of e.node) in
-      let x = end-bound tools id (child_by kind r RunAll e t)
-      (λ end. done (map_ok settled end)) t.journal ps E he in
-      let ex : record {
-        value = map_ok settled x.0.value;
-        journal = x.0.journal;
-        acts =
-            x.0.acts;
-      } ≡ E = some-same (record {
-        value = map_ok settled x.0.value;
-        journal =
-            x.0.journal;
-        acts = x.0.acts;
-      }) E x.2 in
-      let u = settled-ok x.0.value after (ap (λ (w : End (Result State Stopped)). w.value) ex
+      let x = end-mapped tools id (child_by kind r RunAll e t) (map_ok settled) t.journal ps E he in
+      let u = settled-ok x.0.value after (ap (λ (w : End (Result State Stopped)). w.value) x.2
       ∙ ev) in
       let st = child-steps tools id r k fc RunAll e t ps s.is E he in
       let start : InTree ps = in-tree-less st.more ps (subst InTree st.grown tree) in
       let tx : InTree x.0.acts = subst (λ (w : End (Result State Stopped)). InTree w.acts)
-      (sym ex) tree in
+      (sym x.2) tree in
       let g = go kind x.0 x.1 u.0 u.1 start tx given in (
         settled g.0,
         ap (λ v. followed_by v (λ end. done (map_ok settled end))) g.1,

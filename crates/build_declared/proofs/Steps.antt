@@ -121,7 +121,7 @@ use Rattle.target_body.specs.Returned.{items_if, returned}
 use Rattle.target_body.specs.Pieces.{treated, on_old, word_of, decided}
 use Rattle.build_declared.proofs.PartEnds.{progress_in}
 use Rattle.build_declared.specs.Ends.{End, end_of}
-use Rattle.build_declared.proofs.Alones.{some-same, end-bound, msbuild-end, uncalled}
+use Rattle.build_declared.proofs.Alones.{some-same, end-bound, end-mapped, msbuild-end, uncalled}
 
 -- the journal of a result's state
 abbrev pub journal_of : Result State Stopped → Journal
@@ -195,18 +195,10 @@ module _ (tools : List ℕ → ToolInput → ToolAnswer) (id : RunId) (run : Run
       S) → StepsBy get s v → ((r : R) → act (f r) ≡ get r) →
       StepsBy act s (followed_by v (λ end. done (f end)))
   then-by get act s v f h g ps n E e =
-      let x = end-bound tools id v (λ end. done (f end)) s.journal ps E e in
+      let x = end-mapped tools id v f s.journal ps E e in
       let y = h ps n x.0 x.1 in
-      let same : record { value = f x.0.value; journal = x.0.journal; acts = x.0.acts } ≡ E =
-      some-same (record {
-        value = f x.0.value;
-        journal = x.0.journal;
-        acts =
-            x.0.acts;
-      }) E x.2 in
-      subst (λ (z : End _). Stepped (act z.value) ps z.journal z.acts) same (record {
-        in_step =
-            g x.0.value ∙ y.in_step;
+      subst (λ (z : End _). Stepped (act z.value) ps z.journal z.acts) x.2 (record {
+        in_step = g x.0.value ∙ y.in_step;
         numbered_so = y.numbered_so;
         more = y.more;
         grown = y.grown;

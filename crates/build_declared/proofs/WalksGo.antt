@@ -27,12 +27,12 @@ use Rattle.msb_values.specs.declared.scope.Scope.{Scope}
 use Rattle.msb_elements.specs.Nodes.{name_of}
 use Rattle.target_order.specs.Visit.{Question, condition, depends, body, End}
 use Rattle.target_order.specs.declared.asks.OrderAnswer.{OrderAnswer}
-use Rattle.target_order.specs.declared.asks.OrderAnswer.TheVariants.{Truth, Names, Failed}
+use Rattle.target_order.specs.declared.asks.OrderAnswer.TheVariants.{Truth, Failed}
 use Rattle.build_world.specs.Elements.{At, children_of}
 use Rattle.build_world.specs.Instances.{UsedTarget}
 use Rattle.build_world.specs.declared.fault.EvalFault.{EvalFault}
 use Rattle.element_texts.specs.Contexts.{item_context, element_holds}
-use Rattle.msb_items.specs.TargetGroups.{all_applied}
+use Rattle.msb_values.specs.Changes.{all_applied}
 use Rattle.result_cache.specs.Journal.{Journal}
 use Rattle.result_cache.specs.declared.run.RunId.{RunId}
 use Rattle.result_cache.specs.declared.record.Record.{Record}
@@ -42,11 +42,9 @@ use Rattle.build_incremental.specs.Alike.{AlikeRecords, AlikeJournals}
 use Rattle.build_incremental.specs.SideBySide.{HasNotActed, AlikeRuns, AlikeWalks}
 use Rattle.task_trait.specs.declared.tools.ToolAnswer.{ToolAnswer}
 use Rattle.task_trait.specs.declared.tools.ToolInput.{ToolInput}
-use Rattle.request_machine.specs.declared.stage.RequestScope.{RequestScope}
 use Rattle.request_machine.specs.Requests.{
   Project,
   context_at,
-  depends_of,
   errors_at,
   errors_by,
   errors_if,
@@ -54,7 +52,17 @@ use Rattle.request_machine.specs.Requests.{
   on_error,
   target_at,
 }
-use Rattle.request_machine.specs.Walk.{run_of, answer_of, after_run, Site, or_failed, walk}
+use Rattle.request_machine.specs.Walk.{
+  RequestScope,
+  run_of,
+  run_answer,
+  condition_answer,
+  depends_answer,
+  after_run,
+  Site,
+  or_failed,
+  walk,
+}
 use Rattle.build_declared.specs.Written.{bytes_in}
 use Rattle.build_declared.proofs.Looks.{looks-same}
 
@@ -105,7 +113,7 @@ module _ (p : Project) (key : RequestKey) (W : List ℕ → Type 0) (Q' Q : Site
       (λ e. errors-same scope j k a (bytes_eq (name_of e.node) (codes "OnError")) e))
 
   answer-same : (ok : Bool) (s : RequestScope) (j k : Journal) → Alike j k → (name : List ℕ) →
-      answer_of p ok s j name ≡ answer_of p ok s k name
+      run_answer p ok s j name ≡ run_answer p ok s k name
   answer-same true s j k a name = refl
   answer-same false s j k a name = ap (map_ok Failed)
       (on-error-same s.scope j k a (target_at p name))
@@ -139,28 +147,29 @@ module _ (p : Project) (key : RequestKey) (W : List ℕ → Type 0) (Q' Q : Site
       (walk p key second tree s k) j k
   walks-go (ends end) s j k a = refl
   walks-go (asks (condition name) go) s j k a =
-      or-goes (holds_of p s.scope j (target_at p name)) (holds_of p s.scope k (target_at p name))
-      (λ holds. walk p key first (go (Truth holds)) s j)
-      (λ holds. walk p key second (go (Truth holds)) s k) j k
-      (holds-same s.scope j k a (target_at p name)) (λ holds. walks-go (go (Truth holds)) s j k a)
+      or-goes (condition_answer p s j name) (condition_answer p s k name)
+      (λ answer. walk p key first (go answer) s j)
+      (λ answer. walk p key second (go answer) s k) j k
+      (ap (map_ok Truth) (holds-same s.scope j k a (target_at p name)))
+      (λ answer. walks-go (go answer) s j k a)
   walks-go (asks (depends name) go) s j k a =
-      or-goes (depends_of p s.scope (target_at p name)) (depends_of p s.scope (target_at p name))
-      (λ names. walk p key first (go (Names names)) s j)
-      (λ names. walk p key second (go (Names names)) s k) j k
-      refl (λ names. walks-go (go (Names names)) s j k a)
+      or-goes (depends_answer p s name) (depends_answer p s name)
+      (λ answer. walk p key first (go answer) s j)
+      (λ answer. walk p key second (go answer) s k) j k
+      refl (λ answer. walks-go (go answer) s j k a)
   walks-go (asks (body name) go) s j k a = (
     refl,
     runs name s.scope j k a,
     λ m n i l r b.
         let then : RequestScope = after_run s name n in
-        subst (λ z. Goes (or_failed (answer_of p m.ok z i name)
+        subst (λ z. Goes (or_failed (run_answer p m.ok z i name)
         (λ answer. walk p key first (go answer) z i))
-        (or_failed (answer_of p n.ok then l name)
+        (or_failed (run_answer p n.ok then l name)
         (λ answer. walk p key second (go answer) then l)) i l)
         (sym (standing-same s name m n r))
-        (or-goes (answer_of p m.ok then i name) (answer_of p n.ok then l name)
+        (or-goes (run_answer p m.ok then i name) (run_answer p n.ok then l name)
         (λ answer. walk p key first (go answer) then i)
         (λ answer. walk p key second (go answer) then l) i l
-        (answer-same m.ok then i l b name ∙ ap (λ ok. answer_of p ok then l name) r.ok)
+        (answer-same m.ok then i l b name ∙ ap (λ ok. run_answer p ok then l name) r.ok)
         (λ answer. walks-go (go answer) then i l b)),
   )

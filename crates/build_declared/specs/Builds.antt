@@ -1,5 +1,5 @@
 -- The world of a build by its files, its projects and its mode. (MSBuild command-line reference)
-use Rattle.std.specs.Prelude.{ℕ, List, Result}
+use Rattle.std.specs.Prelude.{List, Result}
 use Rattle.msb_laws.specs.Words.{Name}
 use Rattle.msb_values.specs.declared.mode.Mode.{Mode}
 use Rattle.file_store.specs.declared.tree.File.{File}

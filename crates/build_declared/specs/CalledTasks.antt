@@ -1,6 +1,5 @@
 -- The tasks that the children of a target call. (Task element; Output element)
 use Rattle.std.specs.Prelude.{
-  ℕ,
   ◌≡◌,
   true,
   List,

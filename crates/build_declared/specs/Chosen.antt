@@ -1,5 +1,5 @@
 -- What a clean build chooses for the buckets of a target. (Incremental builds)
-use Rattle.std.specs.Prelude.{ℕ, List, [], ◌∷◌}
+use Rattle.std.specs.Prelude.{List, [], ◌∷◌}
 use Rattle.msb_laws.specs.Words.{Path}
 use Rattle.target_incremental.specs.declared.decision.Choice.{Choice}
 use Rattle.target_incremental.specs.declared.decision.Choice.TheVariants.{Run as RunAll, Nothing}

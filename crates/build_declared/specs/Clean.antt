@@ -1,5 +1,5 @@
 -- What a build has to do with the clean build of the same files. (Incremental builds)
-use Rattle.std.specs.Prelude.{ℕ, ◌≡◌, List}
+use Rattle.std.specs.Prelude.{◌≡◌, List}
 use Rattle.msb_laws.specs.Words.{Name, Path}
 use Rattle.msb_values.specs.declared.mode.Mode.TheVariants.{Clean}
 use Rattle.file_store.specs.declared.tree.File.{File}

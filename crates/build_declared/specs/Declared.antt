@@ -1,7 +1,6 @@
 -- Declared worlds: what a clean build of them does says what an incremental one may leave out.
 -- (Target element; Incremental builds)
 use Rattle.std.specs.Prelude.{
-  ℕ,
   ◌≡◌,
   Bool,
   true,

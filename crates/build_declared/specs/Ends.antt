@@ -1,5 +1,5 @@
 -- What comes of a part of a run that calls no request. (Target element)
-use Rattle.std.specs.Prelude.{ℕ, List, ◌∷◌, length, Option, None, Some}
+use Rattle.std.specs.Prelude.{List, ◌∷◌, length, Option, None, Some}
 use Rattle.msb_laws.specs.Words.{Name}
 use Rattle.msb_values.specs.declared.act.Act.{Act}
 use Rattle.result_cache.specs.declared.run.RunId.{RunId}

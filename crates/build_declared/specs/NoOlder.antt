@@ -1,6 +1,6 @@
 -- Trees in which each output of a piece is no older than its inputs, as a build leaves them.
 -- (Incremental builds)
-use Rattle.std.specs.Prelude.{ℕ, ◌≡◌, ◌≤◌, List, Option, None, Some}
+use Rattle.std.specs.Prelude.{◌≡◌, ◌≤◌, List, Option, None, Some}
 use Rattle.msb_laws.specs.Words.{Name, Path}
 use Rattle.msb_values.specs.declared.item.Item.{Item}
 use Rattle.msb_values.specs.declared.scope.Scope.{Scope}

@@ -1,20 +1,6 @@
 -- The pieces of a run: its buckets where both Inputs and Outputs name files. (Target element;
 -- Incremental builds)
-use Rattle.std.specs.Prelude.{
-  ℕ,
-  ◌≡◌,
-  List,
-  [],
-  ◌∷◌,
-  ◌++◌,
-  length,
-  Option,
-  None,
-  Some,
-  Result,
-  Ok,
-  Err,
-}
+use Rattle.std.specs.Prelude.{◌≡◌, List, [], ◌∷◌, ◌++◌, length, Option, None, Some, Result, Ok, Err}
 use Rattle.msb_laws.specs.Words.{Name, Path}
 use Rattle.msb_values.specs.declared.item.Item.{Item}
 use Rattle.msb_values.specs.declared.act.Act.{Act}

@@ -1,5 +1,5 @@
 -- Builds that find each piece up to date, and what comes of them. (Incremental builds)
-use Rattle.std.specs.Prelude.{ℕ, ◌≡◌, List, [], Some}
+use Rattle.std.specs.Prelude.{◌≡◌, List, [], Some}
 use Rattle.msb_laws.specs.Words.{Name}
 use Rattle.msb_values.specs.declared.mode.Mode.TheVariants.{Clean}
 use Rattle.build_world.specs.Instances.{UsedTarget}

@@ -1,5 +1,5 @@
 -- Files of a tree, and what a run does to files.
-use Rattle.std.specs.Prelude.{ℕ, Bool, List, length, ◌-◌, take, Option, option_map}
+use Rattle.std.specs.Prelude.{Bool, List, length, ◌-◌, take, Option, option_map}
 use Rattle.std.specs.List.{list_any}
 use Rattle.std.specs.Str.{bytes_eq}
 use Rattle.msb_laws.specs.Words.{Text, Path}

@@ -1,22 +1,5 @@
 -- The order is answered by the project, ask by ask.
-use Rattle.std.proofs.Common.{
-  ◌≡◌,
-  ℕ,
-  List,
-  Bool,
-  true,
-  false,
-  Some,
-  None,
-  Result,
-  Ok,
-  Err,
-  refl,
-  sym,
-  ap,
-  subst,
-  ◌∙◌,
-}
+use Rattle.std.proofs.Common.{◌≡◌, Bool, true, false, Result, Ok, Err, refl, sym, ap, subst, ◌∙◌}
 use Rattle.msb_laws.specs.Asking.{Asking, gives as ends, asks}
 use Rattle.msb_laws.specs.Results.{map_ok}
 use Rattle.target_order.specs.declared.asks.OrderAsk.{OrderAsk}
@@ -24,15 +7,10 @@ use Rattle.target_order.specs.declared.asks.OrderAsk.TheVariants.{
   Condition,
   Depends,
   Body as AskBody,
-  Done,
-  Circle,
-  Unknown,
 }
 use Rattle.target_order.specs.declared.asks.OrderAnswer.{OrderAnswer}
 use Rattle.target_order.specs.declared.asks.OrderAnswer.TheVariants.{Truth, Names}
-use Rattle.target_order.specs.declared.visits.Asked.{Asked}
-use Rattle.target_order.specs.declared.visits.Asked.TheVariants.{Body as ForBody}
-use Rattle.target_order.specs.Answers.{Asks, told, fails, as_ask, fits, asked_by}
+use Rattle.target_order.specs.Answers.{Asks, told, fails, fits, asked_by}
 use Rattle.target_order.specs.Left.{left}
 use Rattle.target_order.specs.Progress.{Progress}
 use Rattle.target_order.specs.Visit.{
@@ -47,18 +25,17 @@ use Rattle.target_order.specs.Visit.{
   unknown,
 }
 use Rattle.build_world.specs.declared.fault.EvalFault.{EvalFault}
-use Rattle.build_meaning.specs.Walk.{Walk, gives}
+use Rattle.build_meaning.specs.Walk.{Walk}
 use Rattle.result_cache.specs.Journal.{Journal}
 use Rattle.result_cache.specs.declared.request.RequestKey.{RequestKey}
 use Rattle.task_trait.specs.declared.tools.ToolAnswer.{ToolAnswer}
 use Rattle.task_trait.specs.declared.tools.ToolInput.{ToolInput}
-use Rattle.request_machine.specs.declared.stage.RequestScope.{RequestScope}
 use Rattle.request_machine.specs.declared.order.NextStop.{NextStop}
 use Rattle.request_machine.specs.declared.order.NextStop.TheVariants.{Wants, Over}
 use Rattle.request_machine.specs.declared.order.OrderReply.{OrderReply}
 use Rattle.request_machine.specs.declared.order.OrderReply.TheVariants.{Answer, Stop}
 use Rattle.request_machine.specs.Requests.{Project, holds_of, depends_of, target_at}
-use Rattle.request_machine.specs.Walk.{Site, walk, or_failed, faulted, reply_of}
+use Rattle.request_machine.specs.Walk.{RequestScope, Site, walk, or_failed, faulted, reply_of}
 use Rattle.request_machine.specs.OrderReplies.{reply_by, order_reply_of}
 use Rattle.request_machine.specs.NextStops.{StandsNext}
 use Rattle.request_machine.specs.Worlds.{Bodies}
@@ -118,7 +95,7 @@ module _ (p : Project) (key : RequestKey) (s : RequestScope) (journal : Journal)
       (order_reply_at ask (Condition name) order.failed (Answer answer) is.0 e) in (
         ap (λ a. fits (asked_by a) answer) is.0
             ∙ ap (fits (asked_by (Condition name))) (sym given.2),
-        λ bodies. ap (λ r. or_failed r (λ holds. goes bodies (go (Truth holds)))) given.1
+        λ bodies. ap (λ r. or_failed (map_ok Truth r) (λ a. goes bodies (go a))) given.1
             ∙ ap (λ a. goes bodies (go a)) given.2
             ∙ ap (λ next. goes bodies (next answer)) (sym is.1),
       )
@@ -126,7 +103,7 @@ module _ (p : Project) (key : RequestKey) (s : RequestScope) (journal : Journal)
       let given = answer_given (depends_of p s.scope (target_at p name)) Names answer
       (order_reply_at ask (Depends name) order.failed (Answer answer) is.0 e) in (
         ap (λ a. fits (asked_by a) answer) is.0 ∙ ap (fits (asked_by (Depends name))) (sym given.2),
-        λ bodies. ap (λ r. or_failed r (λ names. goes bodies (go (Names names)))) given.1
+        λ bodies. ap (λ r. or_failed (map_ok Names r) (λ a. goes bodies (go a))) given.1
             ∙ ap (λ a. goes bodies (go a)) given.2
             ∙ ap (λ next. goes bodies (next answer)) (sym is.1),
       )
@@ -163,12 +140,12 @@ module _ (p : Project) (key : RequestKey) (s : RequestScope) (journal : Journal)
       let given = stop_given (holds_of p s.scope journal (target_at p name)) Truth next_stop
       (order_reply_at ask (Condition name) order.failed (Stop next_stop) is.0 e) in
       subst (Next (asks (condition name) go) order) given.2
-      (λ bodies. ap (λ r. or_failed r (λ holds. goes bodies (go (Truth holds)))) given.1)
+      (λ bodies. ap (λ r. or_failed (map_ok Truth r) (λ a. goes bodies (go a))) given.1)
   stop_step (asks (depends name) go) ask order next_stop is asked e =
       let given = stop_given (depends_of p s.scope (target_at p name)) Names next_stop
       (order_reply_at ask (Depends name) order.failed (Stop next_stop) is.0 e) in
       subst (Next (asks (depends name) go) order) given.2
-      (λ bodies. ap (λ r. or_failed r (λ names. goes bodies (go (Names names)))) given.1)
+      (λ bodies. ap (λ r. or_failed (map_ok Names r) (λ a. goes bodies (go a))) given.1)
   stop_step (asks (body name) go) ask order next_stop is asked e =
       subst (Next (asks (body name) go) order)
       (same_stop (Wants name) next_stop

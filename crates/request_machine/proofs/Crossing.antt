@@ -258,7 +258,7 @@ module _ (T : RattleType) (s : IsSend T) where
   visit-send : IsSend (Visit.the_field T).row
   visit-send = struct_send (Struct.shape (Visit.the_type T)) (
     ref-send,
-    (state.the_field_send, (order.the_send, (run.the_field_send, (at.the_field_send T s, tt)))),
+    (state.the_send, (order.the_send, (run.the_field_send, (at.the_field_send T s, tt)))),
   )
 
   stage-send : IsSend (Stage.the_field T).row
@@ -267,7 +267,7 @@ module _ (T : RattleType) (s : IsSend T) where
 
   parts-send : IsSend (VisitParts.the_field T).row
   parts-send = struct_send (Struct.shape (VisitParts.the_type T))
-      (state.the_field_send, (order.the_send, (name.the_send, (at.the_field_send T s, tt))))
+      (state.the_send, (order.the_send, (name.the_send, (at.the_field_send T s, tt))))
 
   former_visit-send : IsSend (FormerVisit.the_field T).row
   former_visit-send = enum_send (Enum.shape (FormerVisit.the_type T))

@@ -1,17 +1,5 @@
 -- A request that is over stands as the one that ends as it does.
-use Rattle.std.proofs.Common.{
-  ◌≡◌,
-  ℕ,
-  List,
-  true,
-  false,
-  Option,
-  None,
-  Some,
-  refl,
-  ap,
-  ◌∙◌,
-}
+use Rattle.std.proofs.Common.{◌≡◌, ℕ, List, true, Option, None, Some, refl, ap, ◌∙◌}
 use Rattle.build_world.specs.Instances.{seen_instance}
 use Rattle.build_world.specs.declared.world.World.{World as Given}
 use Rattle.msb_values.specs.declared.key.InstanceKey.{InstanceKey}
@@ -23,7 +11,7 @@ use Rattle.task_trait.specs.declared.tools.ToolInput.{ToolInput}
 use Rattle.build_meaning.specs.State.{Place, walking}
 use Rattle.build_meaning.specs.Stop.{ends, asks}
 use Rattle.build_meaning.specs.Walk.{gives}
-use Rattle.build_scheduler.specs.Position.{HasEnded, Position, ask_at, ask_of}
+use Rattle.build_scheduler.specs.Position.{HasEnded, ask_at, ask_of}
 use Rattle.request_machine.specs.Stages.{ended_stage, has_begun, instance_in}
 use Rattle.request_machine.specs.Positions.{
   Halt,
@@ -39,7 +27,7 @@ use Rattle.request_machine.specs.Visited.{Visited, seen_visit}
 use Rattle.request_machine.specs.Walk.{Site}
 use Rattle.request_machine.specs.Worlds.{project_of}
 use Rattle.request_machine.specs.declared.stage.Stage.{Stage}
-use Rattle.request_machine.specs.declared.stage.Stage.TheVariants.{Begins, Visits, Over}
+use Rattle.request_machine.specs.declared.stage.Stage.TheVariants.{NotBegun, Visits, Over}
 use Rattle.request_machine.specs.declared.stage.RunState.{RunState}
 use Rattle.request_machine.specs.declared.stage.RunState.TheVariants.{Wanted, Called, Made}
 use Rattle.request_machine.specs.declared.stage.Visit.{Visit}
@@ -69,7 +57,7 @@ module _ {T : Type 0} (calls : T → List (List ℕ × ToolInput)) (w : Given) (
   ended_place : (stage : Stage T) → has_begun stage ≡ true →
       HasEnded (ask_at runs (place_of calls w key journal stage)) →
       place_of calls w key journal (ended_stage stage) ≡ place_of calls w key journal stage
-  ended_place Begins begun over = absurd (cc)
+  ended_place NotBegun begun over = absurd (cc)
   ended_place (Visits v) begun over = visit_over v v.at over
   ended_place (Over reply) begun over = refl
 
@@ -93,18 +81,18 @@ module _ {T : Type 0} (calls : T → List (List ℕ × ToolInput)) (w : Given) (
     where
       anywhere : (s : Stage T) → place_of calls given k j (ended_stage s)
           ≡ place_of calls w key journal (ended_stage s)
-      anywhere Begins = refl
+      anywhere NotBegun = refl
       anywhere (Visits v) = refl
       anywhere (Over reply) = refl
 
 -- it is of no other instance, and something was answered
 pub ended_own : {T : Type 0} (key : InstanceKey) (stage : Stage T) →
     instance_in key (ended_stage stage) ≡ key
-ended_own key Begins = refl
+ended_own key NotBegun = refl
 ended_own key (Visits v) = refl
 ended_own key (Over reply) = refl
 
 pub ended_begun : {T : Type 0} (stage : Stage T) → has_begun (ended_stage stage) ≡ true
-ended_begun Begins = refl
+ended_begun NotBegun = refl
 ended_begun (Visits v) = refl
 ended_begun (Over reply) = refl

@@ -12,7 +12,6 @@ use Rattle.std.proofs.Common.{
   ◌++◌,
   length,
   drop,
-  map,
   get_or,
   Result,
   Ok,

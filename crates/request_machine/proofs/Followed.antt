@@ -12,32 +12,24 @@ use Rattle.std.proofs.Common.{
   refl,
   sym,
   ap,
-  ◌∙◌,
   subst,
 }
 use Rattle.msb_laws.specs.Results.{map_ok}
-use Rattle.target_order.specs.Answers.{fits}
 use Rattle.target_order.specs.Left.{left}
 use Rattle.target_order.specs.Progress.{Progress}
 use Rattle.target_order.specs.declared.asks.OrderAnswer.{OrderAnswer}
-use Rattle.target_order.specs.declared.asks.OrderAnswer.TheVariants.{Ok as Ran, Failed}
-use Rattle.target_order.specs.declared.visits.Asked.TheVariants.{Body as ForBody}
+use Rattle.target_order.specs.declared.asks.OrderAnswer.TheVariants.{Failed}
 use Rattle.build_world.specs.declared.fault.EvalFault.{EvalFault}
 use Rattle.result_cache.specs.Journal.{Journal}
-use Rattle.result_cache.specs.declared.record.Record.{Record}
 use Rattle.result_cache.specs.declared.request.RequestKey.{RequestKey}
 use Rattle.request_machine.specs.Requests.{Project, on_error, target_at}
-use Rattle.request_machine.specs.NextStops.{StandsNext}
 use Rattle.request_machine.specs.Worlds.{Bodies}
-use Rattle.request_machine.specs.Walk.{walk, after_run, after_target, answer_of, or_failed, faulted}
+use Rattle.request_machine.specs.Walk.{RequestScope, walk, run_answer, or_failed}
 use Rattle.request_machine.specs.Stages.{IsReady, left_by}
 use Rattle.request_machine.specs.OrderSteps.{FitsBody, FollowsReply}
 use Rattle.request_machine.specs.OrderReplies.{reply_by}
-use Rattle.request_machine.specs.declared.stage.RequestScope.{RequestScope}
 use Rattle.request_machine.specs.declared.order.NextStop.{NextStop}
-use Rattle.request_machine.specs.declared.order.NextStop.TheVariants.{Over as IsOver}
 use Rattle.request_machine.specs.declared.order.OrderReply.{OrderReply}
-use Rattle.request_machine.specs.declared.order.OrderReply.TheVariants.{Answer, Stop}
 use Rattle.request_machine.proofs.Starting.{next_left, next_ready}
 
 -- what a run is answered by fits a body that was asked for
@@ -46,7 +38,7 @@ failed_fits (Ok names) = refl
 failed_fits (Err fault) = tt
 
 pub run_fits : (p : Project) (ok : Bool) (s : RequestScope) (journal : Journal) (name : List ℕ)
-    (order_reply : OrderReply) → order_reply ≡ reply_by (answer_of p ok s journal name) → FitsBody
+    (order_reply : OrderReply) → order_reply ≡ reply_by (run_answer p ok s journal name) → FitsBody
     order_reply
 run_fits p true s journal name order_reply is = subst FitsBody (sym is) refl
 run_fits p false s journal name order_reply is = subst FitsBody (sym is)

@@ -13,14 +13,14 @@ use Rattle.request_machine.specs.Positions.{position_of}
 use Rattle.request_machine.specs.Walk.{Site}
 use Rattle.request_machine.specs.Worlds.{world_of}
 use Rattle.request_machine.specs.declared.stage.Stage.{Stage}
-use Rattle.request_machine.specs.declared.stage.Stage.TheVariants.{Begins, Visits, Over}
+use Rattle.request_machine.specs.declared.stage.Stage.TheVariants.{NotBegun, Visits, Over}
 
 pub stands_alike : {T : Type 0} (answer : List ℕ → ToolInput → ToolAnswer)
     (calls : T → List (List ℕ × ToolInput)) (v w : Given) (key : RequestKey) (journal : Journal)
     (runs : List RunId) (stage : Stage T) → world_of answer v ≡ world_of answer w →
     has_begun stage ≡ false →
     position_of calls v key journal runs stage ≡ position_of calls w key journal runs stage
-stands_alike answer calls v w key journal runs Begins same unbegun =
+stands_alike answer calls v w key journal runs NotBegun same unbegun =
     ap (λ (x : World Site ToolInput ToolAnswer).
     record { journal = journal; runs = runs; place = walking (x.walks key journal) }) same
 stands_alike answer calls v w key journal runs (Visits visit) same unbegun = absurd (cc)

@@ -27,13 +27,12 @@ use Rattle.std.proofs.Common.{
 }
 use Rattle.std.proofs.lemmas.Bool.{eq-eqb, eqb-true}
 use Rattle.std.proofs.lemmas.List.{map-append}
-use Rattle.msb_laws.specs.Asking.{and_then, asks as asks_of}
+use Rattle.msb_laws.specs.Asking.{and_then}
 use Rattle.target_order.specs.Left.{left}
 use Rattle.target_order.specs.Progress.{Progress}
-use Rattle.target_order.specs.Visit.{body as body_of}
 use Rattle.build_world.specs.Instances.{UsedTarget, seen_instance}
 use Rattle.build_world.specs.declared.world.World.{World as Given}
-use Rattle.result_cache.specs.Journal.{Journal, ended, add}
+use Rattle.result_cache.specs.Journal.{Journal}
 use Rattle.result_cache.specs.Replay.{replay, replay_all}
 use Rattle.result_cache.specs.Table.{Records, found}
 use Rattle.result_cache.specs.declared.record.Record.{Record}
@@ -72,14 +71,21 @@ use Rattle.target_body.specs.Standings.{
 }
 use Rattle.target_body.specs.States.{target_named}
 use Rattle.target_body.specs.declared.body.Body.{Body}
-use Rattle.request_machine.specs.Answered.{Advances, HasMade, HasRecord, IsRecord, WaitsFor, WantsRun}
+use Rattle.request_machine.specs.Answered.{
+  Advances,
+  HasMade,
+  HasRecord,
+  IsRecord,
+  WaitsFor,
+  WantsRun,
+}
 use Rattle.request_machine.specs.Asks.{AsksAt, asked_by}
 use Rattle.request_machine.specs.Stages.{
   StandsAt,
   StandsBy,
   has_begun,
   instance_in,
-  is_fresh,
+  is_between_runs,
   is_wanted,
   left_by,
 }
@@ -97,13 +103,12 @@ use Rattle.request_machine.specs.Positions.{
   uses_in,
 }
 use Rattle.request_machine.specs.Requests.{Project}
-use Rattle.request_machine.specs.Walk.{Site, after_target, run_of, walk}
+use Rattle.request_machine.specs.Walk.{RequestScope, Site, after_target, run_of, walk}
 use Rattle.request_machine.specs.Worlds.{bodies_of, body_if, project_of, walk_of, world_of}
 use Rattle.request_machine.specs.declared.after_run.OrderStep.{OrderStep}
 use Rattle.request_machine.specs.declared.run.RunStop.{RunStop}
 use Rattle.request_machine.specs.declared.stage.Stage.{Stage}
-use Rattle.request_machine.specs.declared.stage.Stage.TheVariants.{Begins, Visits, Over}
-use Rattle.request_machine.specs.declared.stage.RequestScope.{RequestScope}
+use Rattle.request_machine.specs.declared.stage.Stage.TheVariants.{NotBegun, Visits, Over}
 use Rattle.request_machine.specs.declared.order.NextStop.{NextStop}
 use Rattle.request_machine.specs.declared.order.NextStop.TheVariants.{Wants, Over as IsOver}
 use Rattle.request_machine.specs.declared.stage.RunState.{RunState}
@@ -385,7 +390,7 @@ module _ {T : Type 0} (answer : List ℕ → ToolInput → ToolAnswer)
 
   pub go_fits : (stage : Stage T) → has_begun stage ≡ true
       → IsSome (answered V table (position_of calls w key journal runs stage) Go) → WantsRun stage
-  go_fits Begins begun is = cc
+  go_fits NotBegun begun is = cc
   go_fits (Visits v) begun is = go_wanted v v.at is
   go_fits (Over reply) begun is = cc
 
@@ -432,7 +437,7 @@ module _ {T : Type 0} (answer : List ℕ → ToolInput → ToolAnswer)
     pub results_wait : (stage : Stage T)
         → IsSome (answered V table (position_of calls w key journal runs stage) (Results results))
         → WaitsFor calls w results stage × IsSome (replay_all table (runs_of results) journal)
-    results_wait Begins is = absurd (no_results (walk_of w key journal) is)
+    results_wait NotBegun is = absurd (no_results (walk_of w key journal) is)
     results_wait (Visits v) is = results_at v v.at is
     results_wait (Over reply) is = cc
 
@@ -475,7 +480,7 @@ module _ {T : Type 0} (answer : List ℕ → ToolInput → ToolAnswer)
       → instance_in key.instance stage ≡ key.instance
       → IsSome (answered V table (position_of calls w key journal runs stage) Use)
       → HasMade table journal stage
-  use_fits Begins begun own is = cc
+  use_fits NotBegun begun own is = cc
   use_fits (Visits v) begun own is = use_at v v.at own is
   use_fits (Over reply) begun own is = cc
 
@@ -490,7 +495,7 @@ module _ {T : Type 0} (answer : List ℕ → ToolInput → ToolAnswer)
 
   not_begun : (stage : Stage T) → has_begun stage ≡ false
       → place_of calls w key journal stage ≡ walking (walk_of w key journal)
-  not_begun Begins begun = refl
+  not_begun NotBegun begun = refl
   not_begun (Visits v) begun = cc
   not_begun (Over reply) begun = cc
 
@@ -514,13 +519,14 @@ module _ {T : Type 0} (answer : List ℕ → ToolInput → ToolAnswer)
     first_used = ap (λ place. used_between place (place_of calls w key journal new))
         (not_begun old unbegun) ∙ ap tools_in (stands.stands calls)
 
--- what is fresh has begun
-pub fresh_begun : {T : Type 0} (stage : Stage T) → is_fresh stage ≡ true → has_begun stage ≡ true
-fresh_begun Begins fresh = cc
-fresh_begun (Visits v) fresh = refl
-fresh_begun (Over reply) fresh = refl
+-- what stands between its runs has begun
+pub between_begun : {T : Type 0} (stage : Stage T) → is_between_runs stage ≡ true
+    → has_begun stage ≡ true
+between_begun NotBegun between = cc
+between_begun (Visits v) between = refl
+between_begun (Over reply) between = refl
 
--- what a fresh stage asks
+-- what a request asks that stands between its runs
 wanted_asks : {T : Type 0} (runs : List RunId) (v : Visit T) (calls : T → List (List ℕ × ToolInput))
     (w : Given) (key : RequestKey) (journal : Journal) (at : RunState T) → is_wanted at ≡ true
     → v.run.instance ≡ key.instance →

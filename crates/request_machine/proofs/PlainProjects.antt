@@ -39,7 +39,7 @@ use Rattle.request_machine.proofs.FilesSeen.{conditions_see_files_by_exists}
 use Rattle.element_texts.specs.Contexts.{view_in}
 use Rattle.target_order.specs.Visit.{Question, condition, depends, body, End, order}
 use Rattle.target_order.specs.declared.asks.OrderAnswer.{OrderAnswer}
-use Rattle.target_order.specs.declared.asks.OrderAnswer.TheVariants.{Truth, Names, Failed}
+use Rattle.target_order.specs.declared.asks.OrderAnswer.TheVariants.{Truth, Failed}
 use Rattle.build_world.specs.Elements.{At, at, attribute_of, or_fault}
 use Rattle.build_world.specs.Instances.{Instance, UsedTarget}
 use Rattle.build_world.specs.declared.fault.EvalFault.{EvalFault}
@@ -62,7 +62,6 @@ use Rattle.request_machine.specs.Requests.{
   Project,
   all_targets,
   context_at,
-  depends_of,
   errors_at,
   errors_by,
   errors_if,
@@ -73,15 +72,17 @@ use Rattle.request_machine.specs.Requests.{
   target_at,
 }
 use Rattle.request_machine.specs.Walk.{
+  RequestScope,
   after_run,
-  answer_of,
+  run_answer,
+  condition_answer,
+  depends_answer,
   nothing_ran,
   or_failed,
   walk,
   walk_unless,
 }
 use Rattle.request_machine.specs.Worlds.{bodies_at, instances_of, request_by, world_of}
-use Rattle.request_machine.specs.declared.stage.RequestScope.{RequestScope}
 
 none-left : (a b : Bool) → (a || b) ≡ false → a ≡ false
 none-left true b e = e
@@ -146,7 +147,7 @@ module _ (p : Project) (scope : Scope) (j k : Journal) where
 
   answers-alike : (ok : Bool) (name : List ℕ) (s : RequestScope) → s.scope ≡ scope →
       IfSome (target_at p name) (λ t. target_asks t ≡ false) →
-      answer_of p ok s j name ≡ answer_of p ok s k name
+      run_answer p ok s j name ≡ run_answer p ok s k name
   answers-alike true name s is none = refl
   answers-alike false name s is none =
       ap (λ x. map_ok Failed (on_error p x j (target_at p name))) is
@@ -174,21 +175,21 @@ module _ {I A : Type 0} (p : Project) (key : RequestKey)
       AskAlike (walk p key body_of x s j) (walk p key body_of x s k)
   walks-alike (ends end) s j k = refl
   walks-alike (asks (condition name) go) s j k =
-      or-alike (holds_of p s.scope j (target_at p name)) (holds_of p s.scope k (target_at p name))
-      (targets-alike p s.scope j k (target_at p name) (asks-none name))
-      (λ holds. walk p key body_of (go (Truth holds)) s j)
-      (λ holds. walk p key body_of (go (Truth holds)) s k)
-      (λ holds. walks-alike (go (Truth holds)) s j k)
+      or-alike (condition_answer p s j name) (condition_answer p s k name)
+      (ap (map_ok Truth) (targets-alike p s.scope j k (target_at p name) (asks-none name)))
+      (λ answer. walk p key body_of (go answer) s j)
+      (λ answer. walk p key body_of (go answer) s k)
+      (λ answer. walks-alike (go answer) s j k)
   walks-alike (asks (depends name) go) s j k =
-      faults-alike (depends_of p s.scope (target_at p name))
-      (λ names. walk p key body_of (go (Names names)) s j)
-      (λ names. walk p key body_of (go (Names names)) s k)
-      (λ names. walks-alike (go (Names names)) s j k)
+      faults-alike (depends_answer p s name)
+      (λ answer. walk p key body_of (go answer) s j)
+      (λ answer. walk p key body_of (go answer) s k)
+      (λ answer. walks-alike (go answer) s j k)
   walks-alike (asks (body name) go) s j k = (
     refl,
     λ made next other.
         let after : RequestScope = after_run s name made in
-        or-alike (answer_of p made.ok after next name) (answer_of p made.ok after other name)
+        or-alike (run_answer p made.ok after next name) (run_answer p made.ok after other name)
         (answers-alike p after.scope next other made.ok name after refl (asks-none name))
         (λ answer. walk p key body_of (go answer) after next)
         (λ answer. walk p key body_of (go answer) after other)

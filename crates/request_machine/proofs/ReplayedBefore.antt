@@ -1,5 +1,5 @@
 -- The journal of a call that is over, as its caller knows it.
-use Rattle.std.proofs.Common.{◌≡◌, IfOk, IfSome, Result, Ok, Err, Option, None, Some}
+use Rattle.std.proofs.Common.{IfOk, IfSome, Result, Ok, Err, Option, None, Some}
 use Rattle.std.proofs.Math.Logic.{∥∥₁_map}
 use Rattle.result_cache.specs.Journal.{Journal}
 use Rattle.result_cache.specs.Replay.{replay_all}

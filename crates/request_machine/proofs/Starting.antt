@@ -1,28 +1,8 @@
 -- How a request begins, and where it stands then.
-use Rattle.std.proofs.Common.{
-  ◌≡◌,
-  ℕ,
-  List,
-  ◌++◌,
-  Bool,
-  true,
-  false,
-  Option,
-  Some,
-  None,
-  Result,
-  Ok,
-  Err,
-  refl,
-  sym,
-  ap,
-  ◌∙◌,
-  subst,
-}
+use Rattle.std.proofs.Common.{◌≡◌, Option, Some, None, Result, sym, ap, ◌∙◌}
 use Rattle.file_store.specs.Files.{file_at}
 use Rattle.file_store.specs.declared.tree.File.{File}
 use Rattle.msb_laws.specs.Asking.{Asking}
-use Rattle.target_order.specs.declared.visits.Asked.TheVariants.{Body as ForBody}
 use Rattle.target_order.specs.Progress.{Progress}
 use Rattle.target_order.specs.Visit.{Question, End}
 use Rattle.target_order.specs.declared.asks.OrderAnswer.{OrderAnswer}
@@ -41,7 +21,7 @@ use Rattle.build_meaning.specs.State.{walking}
 use Rattle.build_meaning.specs.Walk.{Walk, Reply, gives}
 use Rattle.request_machine.specs.Requests.{Project, unevaluated}
 use Rattle.request_machine.specs.NextStops.{StandsNext}
-use Rattle.request_machine.specs.Walk.{Site, walk}
+use Rattle.request_machine.specs.Walk.{RequestScope, Site, walk}
 use Rattle.request_machine.specs.Worlds.{
   bodies_of,
   instance_by,
@@ -57,11 +37,10 @@ use Rattle.request_machine.specs.Stages.{
   StandsAt,
   StandsBy,
   instance_in,
-  is_fresh,
+  is_between_runs,
   is_wanted,
   left_by,
 }
-use Rattle.request_machine.specs.declared.stage.RequestScope.{RequestScope}
 use Rattle.request_machine.specs.declared.order.NextStop.{NextStop}
 use Rattle.request_machine.specs.declared.order.NextStop.TheVariants.{Wants, Over as IsOver}
 use Rattle.request_machine.specs.declared.stage.Stage.{Stage}
@@ -77,7 +56,7 @@ pub over_stands : {T : Type 0} (w : Given) (key : RequestKey) (journal : Journal
     (tree : W) (stage : Stage T) → stage ≡ Over reply → tree ≡ gives reply
     → StandsAt w key journal tree stage
 over_stands w key journal reply tree stage is same = record {
-  fresh = ap is_fresh is;
+  between = ap is_between_runs is;
   own = ap (instance_in key.instance) is;
   stands = λ calls.
       ap (place_of calls w key journal) is ∙ ap walking (sym same);
@@ -87,7 +66,7 @@ pub tree_stands : {T : Type 0} (w : Given) (key : RequestKey) (journal : Journal
     (stage : Stage T) → tree ≡ other → StandsAt w key journal tree stage
     → StandsAt w key journal other stage
 tree_stands w key journal tree other stage same stands = record {
-  fresh = stands.fresh;
+  between = stands.between;
   own = stands.own;
   stands = λ calls. stands.stands calls
       ∙ ap walking same;
@@ -133,7 +112,7 @@ pub wants_stands : {T : Type 0} (key : RequestKey) (v : Visit T) (instance : Mad
     next_stop ≡ Wants run.target → run.instance ≡ key.instance
     → StandsBy key (seen_instance instance) s order next_stop (Visits v)
 wants_stands key v instance s order run next_stop i t o r a is its = λ w journal. record {
-  fresh = ap is_wanted a;
+  between = ap is_wanted a;
   own = ap (λ x. x.instance) r ∙ its;
   stands = λ calls.
       let p : Project = project_of w key (seen_instance instance) in

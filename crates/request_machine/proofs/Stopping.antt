@@ -32,7 +32,7 @@ use Rattle.result_cache.specs.declared.request.RequestResult.{RequestResult}
 use Rattle.result_cache.specs.declared.run.RunId.{RunId}
 use Rattle.task_trait.specs.declared.tools.ToolAnswer.{ToolAnswer}
 use Rattle.task_trait.specs.declared.tools.ToolInput.{ToolInput}
-use Rattle.build_meaning.specs.SoFar.{SoFar, called, recorded}
+use Rattle.build_meaning.specs.SoFar.{SoFar, called}
 use Rattle.build_meaning.specs.Stop.{Stop, ends, asks}
 use Rattle.build_meaning.specs.Walk.{Body as Tree}
 use Rattle.target_body.specs.Standings.{
@@ -51,7 +51,7 @@ use Rattle.target_body.specs.Standings.{
 use Rattle.task_trait.specs.Tools.{BeginsWith}
 use Rattle.target_body.specs.declared.body.Body.{Body}
 use Rattle.target_body.specs.declared.body.BodyAsk.{BodyAsk}
-use Rattle.request_machine.specs.Positions.{Halt, halt_at, halt_by, calls_at, uses_in, uses_between}
+use Rattle.request_machine.specs.Positions.{halt_at, halt_by, calls_at, uses_in, uses_between}
 use Rattle.request_machine.specs.RunStops.{IsRunStop, Plays, Stops, ask_in}
 use Rattle.request_machine.specs.declared.snapshots.Snapshots.{Snapshots}
 use Rattle.request_machine.specs.declared.run.RunStop.{RunStop}

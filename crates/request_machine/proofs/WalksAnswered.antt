@@ -20,7 +20,6 @@ use Rattle.std.proofs.Common.{
   sym,
   ap,
   ◌∙◌,
-  subst,
   arith,
 }
 use mathlib.Core.List.{IsPrefix}
@@ -41,20 +40,20 @@ use Rattle.request_machine.specs.Answered.{IsNext}
 use Rattle.request_machine.specs.Positions.{position_of}
 use Rattle.request_machine.specs.Worlds.{is_some_named, root_of, world_of}
 use Rattle.request_machine.specs.declared.stage.Stage.{Stage}
-use Rattle.request_machine.specs.declared.stage.Stage.TheVariants.{Begins}
+use Rattle.request_machine.specs.declared.stage.Stage.TheVariants.{NotBegun}
 
 -- where a request stands that had no answer yet
 pub position_begins : {T : Type 0} (answer : List ℕ → ToolInput → ToolAnswer)
     (calls : T → List (List ℕ × ToolInput)) (v w : Given) (k key : RequestKey) (j journal : Journal)
     (rs : List RunId) (s : Stage T) →
-    v ≡ w → k ≡ key → j ≡ journal → rs ≡ [] → s ≡ Begins
+    v ≡ w → k ≡ key → j ≡ journal → rs ≡ [] → s ≡ NotBegun
     → position_of calls v k j rs s ≡ begins (world_of answer w) key journal
 position_begins answer calls v w k key j journal rs s is-w is-k is-j is-rs is-s =
     ap (position_of calls v k j rs) is-s
-    ∙ (ap (λ x. position_of calls v k j x Begins) is-rs
-    ∙ (ap (λ x. position_of calls v k x [] Begins) is-j
-    ∙ (ap (λ x. position_of calls v x journal [] Begins) is-k
-    ∙ ap (λ x. position_of calls x key journal [] Begins) is-w)))
+    ∙ (ap (λ x. position_of calls v k j x NotBegun) is-rs
+    ∙ (ap (λ x. position_of calls v k x [] NotBegun) is-j
+    ∙ (ap (λ x. position_of calls v x journal [] NotBegun) is-k
+    ∙ ap (λ x. position_of calls x key journal [] NotBegun) is-w)))
 
 -- a number that is not 0
 above_zero : (n : ℕ) → 0 < n → (n == 0) ≡ false

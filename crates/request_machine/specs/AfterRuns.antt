@@ -16,12 +16,12 @@ use Rattle.request_machine.specs.Worlds.{project_of}
 use Rattle.request_machine.specs.declared.after_run.AfterRun.{AfterRun}
 use Rattle.request_machine.specs.declared.after_run.OrderStep.{OrderStep}
 use Rattle.request_machine.specs.declared.stage.Stage.{Stage}
-use Rattle.request_machine.specs.declared.stage.Stage.TheVariants.{Begins, Visits, Over}
+use Rattle.request_machine.specs.declared.stage.Stage.TheVariants.{NotBegun, Visits, Over}
 use Rattle.request_machine.specs.declared.stage.Visit.{Visit}
 
 -- it wants or makes a run
 abbrev pub IsVisit : {T : Type 0} → Stage T → Type 0
-IsVisit Begins = ⊥
+IsVisit NotBegun = ⊥
 IsVisit (Visits v) = Unit {0}
 IsVisit (Over reply) = ⊥
 
@@ -31,7 +31,7 @@ GoesTo v f stage = (key : RequestKey) → v.run.instance ≡ key.instance
     → StandsBy key (seen_instance v.instance) f.state f.order f.next_stop stage
 
 abbrev pub TakenOn : {T : Type 0} → (before : Stage T) → OrderStep → (after : Stage T) → Type 0
-TakenOn Begins f after = Unit {0}
+TakenOn NotBegun f after = Unit {0}
 TakenOn (Visits v) f after = GoesTo v f after
 TakenOn (Over reply) f after = Unit {0}
 
@@ -47,6 +47,6 @@ pub record ComesAfter {T : Type 0} (w : Given) (key : RequestKey) (table : Recor
 
 abbrev pub IsAfter : {T : Type 0} → Given → RequestKey → Records → Journal → List RunId → Stage T
     → AfterRun → Type 0
-IsAfter w key table journal runs Begins a = Unit {0}
+IsAfter w key table journal runs NotBegun a = Unit {0}
 IsAfter w key table journal runs (Visits v) a = ComesAfter w key table journal runs v a
 IsAfter w key table journal runs (Over reply) a = Unit {0}

@@ -23,7 +23,7 @@ use Rattle.request_machine.specs.RunStops.{IsWaiting}
 use Rattle.request_machine.specs.Positions.{halt_at}
 use Rattle.request_machine.specs.Walk.{Site}
 use Rattle.request_machine.specs.declared.stage.Stage.{Stage}
-use Rattle.request_machine.specs.declared.stage.Stage.TheVariants.{Begins, Visits, Over}
+use Rattle.request_machine.specs.declared.stage.Stage.TheVariants.{NotBegun, Visits, Over}
 use Rattle.request_machine.specs.declared.stage.RunState.{RunState}
 use Rattle.request_machine.specs.declared.stage.RunState.TheVariants.{Wanted, Called, Made}
 
@@ -34,14 +34,14 @@ IsNext begun answer = begun ≡ true
 
 -- it wants a run
 abbrev pub WantsRun : {T : Type 0} → Stage T → Type 0
-WantsRun Begins = ⊥
+WantsRun NotBegun = ⊥
 WantsRun (Visits v) = is_wanted v.at ≡ true
 WantsRun (Over reply) = ⊥
 
 -- the body of its run waits for so many results
 abbrev pub WaitsFor : {T : Type 0} → (T → List (Name × ToolInput)) → Given → List RequestResult
     → Stage T → Type 0
-WaitsFor calls w results Begins = ⊥
+WaitsFor calls w results NotBegun = ⊥
 WaitsFor calls w results (Visits v) = IsWaiting
     (halt_at calls w v.run (target_named (seen_instance v.instance).targets v.run.target) v.at)
     results
@@ -54,7 +54,7 @@ HasRecord table run journal (Called body noted) = ⊥
 HasRecord table run journal (Made made noted) = Unit {0}
 
 abbrev pub HasMade : {T : Type 0} → Records → Journal → Stage T → Type 0
-HasMade table journal Begins = ⊥
+HasMade table journal NotBegun = ⊥
 HasMade table journal (Visits v) = HasRecord table v.run journal v.at
 HasMade table journal (Over reply) = ⊥
 

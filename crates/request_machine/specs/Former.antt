@@ -32,13 +32,13 @@ use Rattle.request_machine.specs.Visited.{Visited, seen_stage}
 use Rattle.request_machine.specs.Walk.{Site, run_of}
 use Rattle.request_machine.specs.declared.former.FormerWalk.{FormerWalk}
 use Rattle.request_machine.specs.declared.former.Former.{Former}
-use Rattle.request_machine.specs.declared.former.Former.TheVariants.{Begins, Body, Visit}
+use Rattle.request_machine.specs.declared.former.Former.TheVariants.{NotBegun, Body, Visit}
 use Rattle.request_machine.specs.declared.former.FormerVisit.{FormerVisit}
 use Rattle.request_machine.specs.declared.former.FormerVisit.TheVariants.{Whole, Parts}
 use Rattle.request_machine.specs.declared.former.VisitParts.{VisitParts}
 use Rattle.request_machine.specs.declared.request.Request.{Request}
 use Rattle.request_machine.specs.declared.stage.Stage.{Stage}
-use Rattle.request_machine.specs.declared.stage.Stage.TheVariants.{Begins as IsAtStart}
+use Rattle.request_machine.specs.declared.stage.Stage.TheVariants.{NotBegun as IsAtStart}
 use Rattle.request_machine.specs.declared.stage.RunState.{RunState}
 
 -- a visit with these parts
@@ -77,20 +77,20 @@ IsVisitOf instance (Some v) =
 
 -- what an answer has replaced fits what it has left
 abbrev pub IsFormer : {T : Type 0} → InstanceKey → Stage T → Former T → Type 0
-IsFormer instance now Begins = Unit {0}
+IsFormer instance now NotBegun = Unit {0}
 IsFormer instance now (Body at journal) = IsVisitOf instance (body_before now at)
 IsFormer instance now (Visit visit journal runs) = IsVisitOf instance (visit_before now visit)
 
 -- something was answered before
-abbrev pub was_begun : {T : Type 0} → Former T → Bool
-was_begun Begins = false
-was_begun (Body at journal) = true
-was_begun (Visit visit journal runs) = true
+abbrev pub had_begun : {T : Type 0} → Former T → Bool
+had_begun NotBegun = false
+had_begun (Body at journal) = true
+had_begun (Visit visit journal runs) = true
 
 -- what the last answer of a walk has replaced
 pub record IsBefore {T : Type 0} (r : Request T) (b : FormerWalk T) : Type 0 where
   pub fits : IsFormer r.key.instance r.stage b.former
-  pub begun : was_begun b.former ≡ not (b.asked == 0)
+  pub begun : had_begun b.former ≡ not (b.asked == 0)
 
 module _ {T : Type 0} (calls : T → List (Name × ToolInput)) where
   abbrev pub place_seen : Given → RequestKey → Journal → Option (Visited T) →
@@ -100,7 +100,7 @@ module _ {T : Type 0} (calls : T → List (Name × ToolInput)) where
 
   -- where a request stood, by what its last answer has replaced
   abbrev pub position_before : Request T → Former T → Position Site ToolInput ToolAnswer
-  position_before r Begins = position_of calls r.world.now r.key r.journal r.runs IsAtStart
+  position_before r NotBegun = position_of calls r.world.now r.key r.journal r.runs IsAtStart
   position_before r (Body at journal) = record {
     journal = journal;
     runs = r.runs;
@@ -115,6 +115,6 @@ module _ {T : Type 0} (calls : T → List (Name × ToolInput)) where
   -- this is what an answer has replaced that has taken a request from the first place to the second
   pub record Replaces (before after : Request T) (former : Former T) : Type 0 where
     pub fits : IsFormer after.key.instance after.stage former
-    pub begun : has_begun before.stage ≡ was_begun former
+    pub begun : has_begun before.stage ≡ had_begun former
     pub stood : position_before after former
         ≡ position_of calls before.world.now before.key before.journal before.runs before.stage

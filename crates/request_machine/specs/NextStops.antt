@@ -10,11 +10,10 @@ use Rattle.target_order.specs.Visit.{Question, body, End}
 use Rattle.result_cache.specs.Journal.{Journal}
 use Rattle.result_cache.specs.declared.request.RequestKey.{RequestKey}
 use Rattle.build_meaning.specs.Walk.{gives}
-use Rattle.request_machine.specs.declared.stage.RequestScope.{RequestScope}
 use Rattle.request_machine.specs.declared.order.NextStop.{NextStop}
 use Rattle.request_machine.specs.declared.order.NextStop.TheVariants.{Wants, Over}
 use Rattle.request_machine.specs.Requests.{Project}
-use Rattle.request_machine.specs.Walk.{walk}
+use Rattle.request_machine.specs.Walk.{RequestScope, walk}
 use Rattle.request_machine.specs.Worlds.{Bodies}
 
 -- the tree of the request is one that wants the run of this target and goes on with the order, or

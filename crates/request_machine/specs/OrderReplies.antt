@@ -2,7 +2,6 @@
 -- build order)
 -- Contracts of private functions alone name this: what requests mean is told without it.
 use Rattle.std.specs.Prelude.{Bool, true, false, Result, Ok, Err}
-use Rattle.msb_laws.specs.Results.{map_ok}
 use Rattle.target_order.specs.Visit.{End, finished, stopped, circle, unknown}
 use Rattle.target_order.specs.declared.asks.OrderAsk.{OrderAsk}
 use Rattle.target_order.specs.declared.asks.OrderAsk.TheVariants.{
@@ -14,16 +13,20 @@ use Rattle.target_order.specs.declared.asks.OrderAsk.TheVariants.{
   Unknown,
 }
 use Rattle.target_order.specs.declared.asks.OrderAnswer.{OrderAnswer}
-use Rattle.target_order.specs.declared.asks.OrderAnswer.TheVariants.{Truth, Names}
 use Rattle.build_world.specs.declared.fault.EvalFault.{EvalFault}
 use Rattle.result_cache.specs.Journal.{Journal}
 use Rattle.result_cache.specs.declared.request.RequestKey.{RequestKey}
-use Rattle.request_machine.specs.declared.stage.RequestScope.{RequestScope}
 use Rattle.request_machine.specs.declared.order.NextStop.TheVariants.{Wants, Over}
 use Rattle.request_machine.specs.declared.order.OrderReply.{OrderReply}
 use Rattle.request_machine.specs.declared.order.OrderReply.TheVariants.{Answer, Stop}
-use Rattle.request_machine.specs.Requests.{Project, holds_of, depends_of, target_at}
-use Rattle.request_machine.specs.Walk.{faulted, reply_of}
+use Rattle.request_machine.specs.Requests.{Project}
+use Rattle.request_machine.specs.Walk.{
+  RequestScope,
+  condition_answer,
+  depends_answer,
+  faulted,
+  reply_of,
+}
 
 -- an answer of the project, or the end of the request
 abbrev pub reply_by : Result OrderAnswer EvalFault → OrderReply
@@ -38,9 +41,8 @@ end_by false = finished
 abbrev pub order_reply_of : Project → RequestKey → RequestScope → Journal → Bool → OrderAsk →
     OrderReply
 order_reply_of p key s journal has_failed (Condition name) = reply_by
-    (map_ok Truth (holds_of p s.scope journal (target_at p name)))
-order_reply_of p key s journal has_failed (Depends name) = reply_by
-    (map_ok Names (depends_of p s.scope (target_at p name)))
+    (condition_answer p s journal name)
+order_reply_of p key s journal has_failed (Depends name) = reply_by (depends_answer p s name)
 order_reply_of p key s journal has_failed (Body name) = Stop (Wants name)
 order_reply_of p key s journal has_failed Done = Stop
     (Over (reply_of p key (end_by has_failed) s))

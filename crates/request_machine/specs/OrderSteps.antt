@@ -12,10 +12,9 @@ use Rattle.result_cache.specs.declared.request.RequestKey.{RequestKey}
 use Rattle.request_machine.specs.Requests.{Project}
 use Rattle.request_machine.specs.NextStops.{StandsNext}
 use Rattle.request_machine.specs.Worlds.{Bodies}
-use Rattle.request_machine.specs.Walk.{walk, after_run, after_target}
+use Rattle.request_machine.specs.Walk.{RequestScope, walk, after_target}
 use Rattle.request_machine.specs.Stages.{IsReady, left_by}
 use Rattle.request_machine.specs.declared.after_run.OrderStep.{OrderStep}
-use Rattle.request_machine.specs.declared.stage.RequestScope.{RequestScope}
 use Rattle.request_machine.specs.declared.order.NextStop.{NextStop}
 use Rattle.request_machine.specs.declared.order.OrderReply.{OrderReply}
 use Rattle.request_machine.specs.declared.order.OrderReply.TheVariants.{Answer, Stop}

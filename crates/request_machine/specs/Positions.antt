@@ -1,12 +1,12 @@
 -- Where the walk of a request stands, by what the code holds of it. (Target build order; MSBuild
 -- task)
-use Rattle.std.specs.Prelude.{ℕ, List, [], ◌∷◌, ◌++◌, length, drop, map, Option, Some, None}
+use Rattle.std.specs.Prelude.{ℕ, List, [], ◌∷◌, length, drop, map, Option, Some, None}
 use Rattle.std.specs.List.{flat_map}
 use Rattle.msb_laws.specs.Asking.{asks as asks_of}
 use Rattle.msb_laws.specs.Words.{Name}
 use Rattle.target_order.specs.Left.{left}
 use Rattle.target_order.specs.Visit.{body as body_of}
-use Rattle.build_world.specs.Instances.{UsedTarget, seen_instance}
+use Rattle.build_world.specs.Instances.{UsedTarget}
 use Rattle.build_world.specs.declared.world.World.{World as Given}
 use Rattle.result_cache.specs.Journal.{Journal}
 use Rattle.result_cache.specs.declared.record.Record.{Record}
@@ -30,7 +30,7 @@ use Rattle.request_machine.specs.declared.stage.RunState.{RunState}
 use Rattle.request_machine.specs.declared.stage.RunState.TheVariants.{Wanted, Called, Made}
 use Rattle.request_machine.specs.declared.stage.Visit.{Visit}
 use Rattle.request_machine.specs.declared.stage.Stage.{Stage}
-use Rattle.request_machine.specs.declared.stage.Stage.TheVariants.{Begins, Visits, Over}
+use Rattle.request_machine.specs.declared.stage.Stage.TheVariants.{NotBegun, Visits, Over}
 
 -- what the record of a run says besides its segments
 abbrev pub outcome_in : Record → Outcome
@@ -115,7 +115,7 @@ module _ {T : Type 0} (calls : T → List (Name × ToolInput)) (w : Given) where
   place_at key v journal at = place_by key (seen_visit v) journal at
 
   abbrev pub place_of : RequestKey → Journal → Stage T → Place Site ToolInput ToolAnswer
-  place_of key journal Begins = walking (walk_of w key journal)
+  place_of key journal NotBegun = walking (walk_of w key journal)
   place_of key journal (Visits v) = place_at key v journal v.at
   place_of key journal (Over reply) = walking (gives reply)
 

@@ -16,7 +16,6 @@ use Rattle.std.specs.Prelude.{
   None,
   Result,
   Ok,
-  Err,
   codes,
   length,
   ◌==◌,

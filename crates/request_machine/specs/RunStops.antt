@@ -6,7 +6,6 @@ use Rattle.build_world.specs.Instances.{UsedTarget}
 use Rattle.build_world.specs.declared.world.World.{World as Given}
 use Rattle.result_cache.specs.Journal.{Journal}
 use Rattle.result_cache.specs.declared.record.Record.{Record}
-use Rattle.result_cache.specs.declared.record.Segment.{Segment}
 use Rattle.result_cache.specs.declared.request.RequestResult.{RequestResult}
 use Rattle.result_cache.specs.declared.run.RunId.{RunId}
 use Rattle.task_trait.specs.declared.tools.ToolAnswer.{ToolAnswer}

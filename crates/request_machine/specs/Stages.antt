@@ -16,43 +16,43 @@ use Rattle.task_trait.specs.declared.tools.ToolInput.{ToolInput}
 use Rattle.build_meaning.specs.State.{walking}
 use Rattle.build_meaning.specs.Walk.{Walk, gives}
 use Rattle.request_machine.specs.Requests.{Project, failed}
-use Rattle.request_machine.specs.Walk.{Site, walk}
+use Rattle.request_machine.specs.Walk.{RequestScope, Site, walk}
 use Rattle.request_machine.specs.Worlds.{bodies_of, project_of, Bodies}
 use Rattle.request_machine.specs.Positions.{place_of}
-use Rattle.request_machine.specs.declared.stage.RequestScope.{RequestScope}
 use Rattle.request_machine.specs.declared.order.NextStop.{NextStop}
 use Rattle.request_machine.specs.declared.order.NextStop.TheVariants.{Wants, Over as IsOver}
 use Rattle.request_machine.specs.declared.stage.Stage.{Stage}
 use Rattle.request_machine.specs.declared.stage.RunState.{RunState}
 use Rattle.request_machine.specs.declared.stage.RunState.TheVariants.{Wanted, Called, Made}
-use Rattle.request_machine.specs.declared.stage.Stage.TheVariants.{Begins, Visits, Over}
+use Rattle.request_machine.specs.declared.stage.Stage.TheVariants.{NotBegun, Visits, Over}
 
 -- something was answered
 abbrev pub has_begun : {T : Type 0} → Stage T → Bool
-has_begun Begins = false
+has_begun NotBegun = false
 has_begun (Visits v) = true
 has_begun (Over reply) = true
 
--- it wants a run of which nothing is known yet, or is over
+-- the run of its target is wanted, and nothing is known of it yet
 abbrev pub is_wanted : {T : Type 0} → RunState T → Bool
 is_wanted Wanted = true
 is_wanted (Called body noted) = false
 is_wanted (Made made noted) = false
 
-abbrev pub is_fresh : {T : Type 0} → Stage T → Bool
-is_fresh Begins = false
-is_fresh (Visits v) = is_wanted v.at
-is_fresh (Over reply) = true
+-- it wants such a run, or is over
+abbrev pub is_between_runs : {T : Type 0} → Stage T → Bool
+is_between_runs NotBegun = false
+is_between_runs (Visits v) = is_wanted v.at
+is_between_runs (Over reply) = true
 
 -- how a request that is over stands: where its project has not the target of its run, it has failed
 abbrev pub ended_stage : {T : Type 0} → Stage T → Stage T
-ended_stage Begins = Over (failed None)
+ended_stage NotBegun = Over (failed None)
 ended_stage (Visits v) = Over (failed None)
 ended_stage (Over reply) = Over reply
 
 -- the instance of the run that it wants or makes, which is that of the request
 abbrev pub instance_in : {T : Type 0} → InstanceKey → Stage T → InstanceKey
-instance_in key Begins = key
+instance_in key NotBegun = key
 instance_in key (Visits v) = v.run.instance
 instance_in key (Over reply) = key
 
@@ -71,7 +71,7 @@ IsReady (IsOver reply) order = Unit {0}
 -- the stage of a request of which this is left
 pub record StandsAt {T : Type 0} (w : Given) (key : RequestKey) (journal : Journal)
     (tree : Walk Site ToolInput ToolAnswer) (stage : Stage T) : Type 0 where
-  pub fresh : is_fresh stage ≡ true
+  pub between : is_between_runs stage ≡ true
   pub own : instance_in key.instance stage ≡ key.instance
   pub stands : (calls : T → List (Name × ToolInput))
       → place_of calls w key journal stage ≡ walking tree

@@ -2,7 +2,7 @@
 -- Contracts of private functions alone name this: what requests mean is told without it.
 use Rattle.std.specs.Prelude.{◌≡◌, List, Some}
 use Rattle.msb_laws.specs.Words.{Name}
-use Rattle.build_world.specs.Instances.{UsedTarget, seen_instance}
+use Rattle.build_world.specs.Instances.{seen_instance}
 use Rattle.build_world.specs.declared.world.World.{World as Given}
 use Rattle.result_cache.specs.Journal.{Journal}
 use Rattle.result_cache.specs.Replay.{replay_all}
@@ -18,7 +18,7 @@ use Rattle.request_machine.specs.Runs.{run_in}
 use Rattle.request_machine.specs.Worlds.{body_if}
 use Rattle.request_machine.specs.declared.run.RunStop.{RunStop}
 use Rattle.request_machine.specs.declared.stage.Stage.{Stage}
-use Rattle.request_machine.specs.declared.stage.Stage.TheVariants.{Begins, Visits, Over}
+use Rattle.request_machine.specs.declared.stage.Stage.TheVariants.{NotBegun, Visits, Over}
 use Rattle.request_machine.specs.declared.stage.Visit.{Visit}
 
 module _ {T : Type 0} (answer : Name → ToolInput → ToolAnswer)
@@ -32,7 +32,7 @@ module _ {T : Type 0} (answer : Name → ToolInput → ToolAnswer)
     pub own : run_in v.run run_stop.at ≡ v.run
 
   abbrev pub IsMade : Stage T → (before after : Journal) → (old new : T) → RunStop T → Type 0
-  IsMade Begins before after old new run_stop = Unit {0}
+  IsMade NotBegun before after old new run_stop = Unit {0}
   IsMade (Visits v) before after old new run_stop = HasMadeRun v before after old new run_stop
   IsMade (Over reply) before after old new run_stop = Unit {0}
 
@@ -48,7 +48,7 @@ module _ {T : Type 0} (answer : Name → ToolInput → ToolAnswer)
 
   abbrev pub IsResumed : Records → List RequestResult → Stage T → (before after : Journal)
       → (old new : T) → RunStop T → Type 0
-  IsResumed table results Begins before after old new run_stop = Unit {0}
+  IsResumed table results NotBegun before after old new run_stop = Unit {0}
   IsResumed table results (Visits v) before after old new run_stop = HasResumedRun table results v
       before after old new run_stop
   IsResumed table results (Over reply) before after old new run_stop = Unit {0}

@@ -1,6 +1,6 @@
 -- That what a node has suits a world is true in one way alone.
 use mathlib.Core.Sum.{⊎_set}
-use Rattle.std.proofs.Common.{ℕ, List}
+use Rattle.std.proofs.Common.{List}
 use Rattle.std.proofs.Props.{props}
 use Rattle.std.specs.Coded.{codes, Coded-set, ×_prop}
 use Rattle.msb_laws.specs.Words.{Name}

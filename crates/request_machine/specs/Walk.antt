@@ -44,13 +44,13 @@ use Rattle.target_order.specs.declared.asks.OrderAnswer.TheVariants.{
 use Rattle.build_world.specs.Faults.{fault_text}
 use Rattle.build_world.specs.declared.fault.EvalFault.{EvalFault}
 use Rattle.build_world.specs.Instances.{UsedTarget}
-use Rattle.msb_items.specs.TargetGroups.{all_applied}
+use Rattle.msb_values.specs.Changes.{all_applied}
 use Rattle.result_cache.specs.Journal.{Journal}
 use Rattle.result_cache.specs.declared.run.RunId.{RunId}
 use Rattle.result_cache.specs.declared.record.Record.{Record}
 use Rattle.result_cache.specs.declared.request.RequestKey.{RequestKey}
+use Rattle.result_cache.specs.declared.request.Returned.{Returned}
 use Rattle.build_meaning.specs.Walk.{Walk, gives, wants, Body, Reply}
-use Rattle.request_machine.specs.declared.stage.RequestScope.{RequestScope}
 use Rattle.request_machine.specs.Requests.{
   Project,
   holds_of,
@@ -62,6 +62,12 @@ use Rattle.request_machine.specs.Requests.{
   failed,
   has_no_targets,
 }
+
+-- where a request stands between its runs: the scope with their changes, and what their targets
+-- have returned
+pub record RequestScope : Type 0 where
+  pub scope : Scope
+  pub returned : List Returned
 
 -- a target has run
 abbrev pub after_run : RequestScope → Name → Record → RequestScope
@@ -98,12 +104,21 @@ reply_of p key stopped s = failed None
 reply_of p key (circle names) s = failed (Some (circle_text names))
 reply_of p key (unknown name) s = failed (Some (unknown_text name))
 
+-- what the project answers where the order asks for a Condition or a DependsOnTargets, in the scope
+-- and by the files of that moment
+abbrev pub condition_answer : Project → RequestScope → Journal → Name → Result OrderAnswer
+    EvalFault
+condition_answer p s journal name = map_ok Truth (holds_of p s.scope journal (target_at p name))
+
+abbrev pub depends_answer : Project → RequestScope → Name → Result OrderAnswer EvalFault
+depends_answer p s name = map_ok Names (depends_of p s.scope (target_at p name))
+
 -- a run has succeeded, or has failed: then the OnError elements of its target are read in the scope
 -- that it leaves
-abbrev pub answer_of : Project → Bool → RequestScope → Journal → Name → Result OrderAnswer
+abbrev pub run_answer : Project → Bool → RequestScope → Journal → Name → Result OrderAnswer
     EvalFault
-answer_of p true s journal name = Ok Ran
-answer_of p false s journal name = map_ok Failed (on_error p s.scope journal (target_at p name))
+run_answer p true s journal name = Ok Ran
+run_answer p false s journal name = map_ok Failed (on_error p s.scope journal (target_at p name))
 
 -- what follows a run, by its record and the journal then, where the order goes on so
 abbrev pub after_target : {P I A : Type 0} → Project →
@@ -111,7 +126,7 @@ abbrev pub after_target : {P I A : Type 0} → Project →
     Walk P I A
 after_target p next s name made journal =
     let after : RequestScope = after_run s name made in
-    or_failed (answer_of p made.ok after journal name) (λ answer. next answer after journal)
+    or_failed (run_answer p made.ok after journal name) (λ answer. next answer after journal)
 
 -- at the beginning nothing has run
 abbrev pub nothing_ran : Project → RequestScope
@@ -126,16 +141,13 @@ pub record Site : Type 0 where
 
 module _ {I A : Type 0} (p : Project) (key : RequestKey)
     (body_of : Name → Scope → Journal → Body I A) where
-  -- what the order asks is answered in the scope and by the files of that moment; a body is a run
-  -- that is wanted
+  -- what the order asks is answered by the project; a body is a run that is wanted
   abbrev pub walk : Asking Question OrderAnswer End → RequestScope → Journal → Walk Site I A
   walk (ends end) s journal = gives (reply_of p key end s)
   walk (asks (condition name) go) s journal =
-      or_failed (holds_of p s.scope journal (target_at p name))
-      (λ holds. walk (go (Truth holds)) s journal)
+      or_failed (condition_answer p s journal name) (λ answer. walk (go answer) s journal)
   walk (asks (depends name) go) s journal =
-      or_failed (depends_of p s.scope (target_at p name))
-      (λ names. walk (go (Names names)) s journal)
+      or_failed (depends_answer p s name) (λ answer. walk (go answer) s journal)
   walk (asks (body name) go) s journal =
       wants (record { target = target_at p name; scope = s.scope }) (run_of p.key name)
       (body_of name s.scope journal) (after_target p (λ answer. walk (go answer)) s name)

@@ -1,5 +1,4 @@
-ghost use Rattle.std.specs.Prelude.{◌≡◌, IfOk, OnOk};
-ghost use Rattle.msb_items.specs.TargetGroups.{all_applied};
+ghost use Rattle.std.specs.Prelude.{◌≡◌, IfOk};
 ghost use Rattle.target_order.specs.declared.visits.Asked.TheVariants.{Body as ForBody};
 ghost use Rattle.request_machine.specs.Asks.{asked_by};
 ghost use Rattle.request_machine.specs.Stages.{IsReady};
@@ -20,7 +19,7 @@ use crate::shared::SharedList;
 use crate::stage::{RequestScope, RunState, Stage};
 use build_scheduler::Ask;
 use msb_files::Journal;
-use msb_values::{Change, Copied, InstanceKey, Name, NoMemory, Scope};
+use msb_values::{Copied, InstanceKey, Name, NoMemory};
 use result_cache::{Record, Returned, RunId, RunRef};
 use std::alloc::Global;
 use std::mem;
@@ -122,7 +121,7 @@ fn want<T>(
     };
     match stage {
         Stage::Visits(visit) => FormerVisit::Parts(parts.replace(visit)),
-        Stage::Begins | Stage::Over(_) => unreachable!(),
+        Stage::NotBegun | Stage::Over(_) => unreachable!(),
     }
 }
 
@@ -188,7 +187,7 @@ fn after_run(
     ensures { IfOk result (λ s. s ≡ after_run state.now name.now run_record.now) }
 {
     let mut scope = state.scope.copy()?;
-    apply_all(alloc, &mut scope, run_record.changes.as_slice())?;
+    scope.apply_all(alloc, run_record.changes.as_slice())?;
     let mut returned = state.returned.copy()?;
     let items = run_record.items.copy()?;
     returned.push(
@@ -199,13 +198,4 @@ fn after_run(
         },
     )?;
     Ok(RequestScope { scope, returned })
-}
-
-fn apply_all(alloc: Global, scope: &mut Scope, changes: &[Change]) -> Result<(), NoMemory>
-    ensures { OnOk result (scope.new ≡ all_applied changes.now scope.old) }
-{
-    for change in changes {
-        scope.apply(alloc, change)?;
-    }
-    Ok(())
 }

@@ -1,4 +1,4 @@
-ghost use Rattle.std.specs.Prelude.{◌≡◌, option_map, option_copied, ◌++◌, map};
+ghost use Rattle.std.specs.Prelude.{◌≡◌, option_map, option_copied, map};
 ghost use Rattle.build_world.specs.Instances.{seen_target};
 ghost use Rattle.request_machine.specs.Requests.{
   target_at,
@@ -13,7 +13,7 @@ ghost use Rattle.request_machine.specs.Requests.{
 ghost use Rattle.request_machine.specs.Seen.{seen_project};
 ghost use Rattle.msb_files.specs.Views.{paths};
 ghost use Rattle.build_world.specs.Answers.{GivesFault};
-ghost use Rattle.build_world.specs.Elements.{seen_element, seen_placed, at};
+ghost use Rattle.build_world.specs.Elements.{seen_element, at};
 ghost use Rattle.element_texts.specs.Contexts.{item_context};
 ghost use Rattle.element_texts.specs.Seen.{context_of};
 ghost use Rattle.msb_elements.specs.View.{view};
@@ -93,7 +93,8 @@ impl<'a> RequestContext<'a> {
             ≡ item_context (paths files.entry.now) self.now.project.key.now.path
             self.now.state.now.scope }
     {
-        ElementContext::of_items(files, self.project.key.path.as_str(), &self.state.scope)
+        let state = self.state;
+        ElementContext::of_items(files, self.project.key.path.as_str(), &state.scope)
     }
 
     /// Whether the Condition of the target of this name holds.

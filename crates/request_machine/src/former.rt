@@ -10,7 +10,7 @@ ghost use Rattle.request_machine.specs.Former.{
   body_before,
   position_before,
   visit_before,
-  was_begun,
+  had_begun,
   with_at,
   with_parts,
 };
@@ -33,8 +33,8 @@ use task_trait::CountedTools;
 
 /// What the last answer of a request has replaced.
 pub enum Former<T> {
-    /// It had no answer before.
-    Begins,
+    /// Nothing had been answered before.
+    NotBegun,
     /// The body of its run stood here, by this journal.
     Body(RunState<T>, Journal),
     /// It visited another target, by this journal and with these runs.
@@ -45,7 +45,7 @@ pub enum Former<T> {
 impl<T> Drop for Former<T> {
     fn drop(self) {
         match self {
-            Former::Begins => {}
+            Former::NotBegun => {}
             Former::Body(_, _) => {}
             Former::Visit(_, _, _) => {}
         }
@@ -133,7 +133,7 @@ impl<T> VisitParts<T> {
             Stage::Visits(visit) => {
                 let _visited = self.replace(visit);
             }
-            Stage::Begins | Stage::Over(_) => unreachable!(),
+            Stage::NotBegun | Stage::Over(_) => unreachable!(),
         }
     }
 }
@@ -163,7 +163,7 @@ pub fn replace_body<T>(stage: &mut Stage<T>, at: RunState<T>) -> RunState<T>
 {
     match stage {
         Stage::Visits(visit) => replace_at(visit, at),
-        Stage::Begins | Stage::Over(_) => unreachable!(),
+        Stage::NotBegun | Stage::Over(_) => unreachable!(),
     }
 }
 
@@ -182,11 +182,11 @@ impl<T: CountedTools> Former<T> {
         requires { ∥ IsFormer request.old.key.instance request.old.stage self ∥₁ }
         ensures stands { request_position T.calls request.new
             ≡ position_before T.calls request.old self }
-        ensures begun { has_begun request.new.stage ≡ was_begun self }
+        ensures begun { has_begun request.new.stage ≡ had_begun self }
         ensures world { request.new.world ≡ request.old.world }
     {
         match self {
-            Former::Begins => request.stage = Stage::Begins,
+            Former::NotBegun => request.stage = Stage::NotBegun,
             Former::Body(at, journal) => {
                 let _now = replace_body(&mut request.stage, at);
                 request.journal = journal;

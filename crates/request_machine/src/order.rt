@@ -1,19 +1,14 @@
-ghost use Rattle.std.specs.Prelude.{◌≡◌, ◌∷◌, IfOk, Result, Err, None, Some};
-ghost use Rattle.msb_laws.specs.Results.{map_ok};
+ghost use Rattle.std.specs.Prelude.{◌≡◌, IfOk, Result, Err};
 ghost use Rattle.msb_values.specs.Caused.{UnlessMemory};
 ghost use Rattle.build_world.specs.declared.fault.EvalFault.{EvalFault as TheFault};
 ghost use Rattle.target_order.specs.declared.asks.OrderAnswer.{OrderAnswer as TheAnswer};
-ghost use Rattle.target_order.specs.declared.asks.OrderAnswer.TheVariants.{Truth, Names, Failed};
-ghost use Rattle.request_machine.specs.Requests.{
-  depends_of,
-  failed,
-  holds_of,
-  on_error,
-  succeeded,
-  target_at,
-};
 ghost use Rattle.request_machine.specs.OrderReplies.{end_by, order_reply_of, reply_by};
-ghost use Rattle.request_machine.specs.Walk.{answer_of, reply_of};
+ghost use Rattle.request_machine.specs.Walk.{
+  run_answer,
+  condition_answer,
+  depends_answer,
+  reply_of,
+};
 ghost use Rattle.request_machine.specs.Seen.{seen_project};
 ghost use Rattle.target_order.specs.Answers.{Fits};
 ghost use Rattle.target_order.specs.Left.{left};
@@ -71,9 +66,8 @@ impl<'a> RequestContext<'a> {
         ensures { IfOk result
             (λ order_reply. order_reply
             ≡ reply_by
-            (map_ok Truth
-            (holds_of (seen_project self.now.project) self.now.state.now.scope
-            self.now.journal.now (target_at (seen_project self.now.project) name.now)))) }
+            (condition_answer (seen_project self.now.project) self.now.state.now
+            self.now.journal.now name.now)) }
     {
         match self.condition(alloc, name) {
             Ok(holds) => Ok(OrderReply::Answer(OrderAnswer::Truth(holds))),
@@ -85,9 +79,7 @@ impl<'a> RequestContext<'a> {
         ensures { IfOk result
             (λ order_reply. order_reply
             ≡ reply_by
-            (map_ok Names
-            (depends_of (seen_project self.now.project) self.now.state.now.scope
-            (target_at (seen_project self.now.project) name.now)))) }
+            (depends_answer (seen_project self.now.project) self.now.state.now name.now)) }
     {
         match self.depends(alloc, name) {
             Ok(names) => Ok(OrderReply::Answer(OrderAnswer::Names(names))),
@@ -101,7 +93,7 @@ impl<'a> RequestContext<'a> {
         ensures { IfOk result
             (λ order_reply. order_reply
             ≡ reply_by
-            (answer_of (seen_project self.now.project) ok self.now.state.now self.now.journal.now
+            (run_answer (seen_project self.now.project) ok self.now.state.now self.now.journal.now
             name.now)) }
     {
         if ok {

@@ -1,18 +1,7 @@
 //! Which conditions ask for files, and which requests ask alike between their runs, whatever their
 //! journals are. (MSBuild conditions, Exists.)
 
-ghost use Rattle.std.specs.Prelude.{
-  ◌≡◌,
-  List,
-  ℕ,
-  map,
-  not,
-  IfOk,
-  ◌≢◌,
-  Option,
-  false,
-  option_copied,
-};
+ghost use Rattle.std.specs.Prelude.{◌≡◌, List, ℕ, map, IfOk, ◌≢◌, Option, false, option_copied};
 ghost use Rattle.std.specs.List.{list_any};
 ghost use Rattle.msb_elements.specs.View.{view};
 ghost use Rattle.build_world.specs.Instances.{seen_instance, seen_target};

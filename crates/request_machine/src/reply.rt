@@ -1,11 +1,10 @@
-ghost use Rattle.std.specs.Prelude.{◌≡◌, ◌++◌, ◌∷◌, IfOk, None, Some, codes, OnOk, option_copied};
+ghost use Rattle.std.specs.Prelude.{◌≡◌, ◌++◌, IfOk, Some, OnOk, option_copied};
 ghost use Rattle.request_machine.specs.Requests.{
   failed,
   unevaluated,
   all_targets,
   asked_targets,
   if_returned,
-  named_or,
   once,
   returned_of,
   succeeded,
@@ -157,7 +156,8 @@ impl<'a> RequestContext<'a> {
             self.now.state.now.returned) }
     {
         let names = asked_targets(self.project.instance.get(), self.key);
-        let returned = self.state.returned.entries(alloc)?;
+        let state = self.state;
+        let returned = state.returned.entries(alloc)?;
         Ok(Reply {
             ok: true,
             evaluated: true,

@@ -93,7 +93,7 @@ impl<'a, T> Request<'a, T> {
     ghost use Rattle.request_machine.specs.Stages.{StandsAt, ended_stage};
     ghost use Rattle.request_machine.specs.OrderSteps.{Follows};
     ghost use Rattle.request_machine.specs.AfterRuns.{ComesAfter, IsAfter};
-    ghost use Rattle.request_machine.specs.declared.stage.Stage.TheVariants.{Begins};
+    ghost use Rattle.request_machine.specs.declared.stage.Stage.TheVariants.{NotBegun};
     ghost use Rattle.request_machine.specs.Plain.{is_plain};
     ghost use Rattle.request_machine.specs.Worlds.{instances_of, project_of, walk_of};
 
@@ -103,7 +103,7 @@ impl<'a, T> Request<'a, T> {
         ensures key { result.key ≡ key }
         ensures journal { result.journal ≡ journal }
         ensures runs { result.runs ≡ [] }
-        ensures stage { result.stage ≡ Begins }
+        ensures stage { result.stage ≡ NotBegun }
     {
         Request {
             alloc,
@@ -111,7 +111,7 @@ impl<'a, T> Request<'a, T> {
             key,
             journal,
             runs: SharedList::new(alloc),
-            stage: Stage::Begins,
+            stage: Stage::NotBegun,
             plain: false,
         }
     }
@@ -211,7 +211,7 @@ impl<'a, T> Request<'a, T> {
     {
         match &self.stage {
             Stage::Visits(visit) => self.after_visit(learnt, visit),
-            Stage::Begins | Stage::Over(_) => unreachable!(),
+            Stage::NotBegun | Stage::Over(_) => unreachable!(),
         }
     }
 
@@ -300,7 +300,14 @@ impl<'a, T: CountedTools + 'a> Request<'a, T> {
     ghost use Rattle.task_trait.specs.Tools.{BeginsWith};
     ghost use Rattle.request_machine.specs.Answered.{Advances, HasMade, IsNext, WaitsFor, WantsRun};
     ghost use Rattle.request_machine.specs.Stages.{has_begun};
-    ghost use Rattle.request_machine.specs.Former.{Replaces};
+    ghost use Rattle.request_machine.specs.Former.{
+      IsVisitOf,
+      Replaces,
+      body_before,
+      position_before,
+    };
+    ghost use Rattle.request_machine.specs.AfterRuns.{IsVisit};
+    ghost use Rattle.request_machine.specs.declared.former.Former.TheVariants.{Body};
     ghost use Rattle.request_machine.specs.StoppedBodies.{HasMadeRun, IsMade, IsResumed};
     ghost use Rattle.request_machine.specs.RunStops.{Resumes, IsWaiting};
     ghost use Rattle.request_machine.specs.Positions.{halt_at};
@@ -389,7 +396,7 @@ impl<'a, T: CountedTools + 'a> Request<'a, T> {
         self.plain = plain;
         Ok(Advanced {
             ask,
-            former: Former::Begins,
+            former: Former::NotBegun,
         })
     }
 
@@ -412,14 +419,30 @@ impl<'a, T: CountedTools + 'a> Request<'a, T> {
         ensures tools { BeginsWith (T.calls tools.old) (T.calls tools.new) }
         ensures err { OnErr result (self.new ≡ self.old) }
     {
-        let StoppedBody { run_stop, journal } = self.make_run(tools)?;
+        let stopped = self.make_run(tools)?;
+        Ok(self.stop_body(stopped))
+    }
+
+    // The body of its run has stopped here. This takes no memory.
+    fn stop_body(&mut self, stopped: StoppedBody<T>) -> Advanced<T>
+        requires visits { IsVisit self.old.stage }
+        requires fits { ∥ IsVisitOf self.old.key.instance
+            (body_before self.old.stage stopped.run_stop.at) ∥₁ }
+        ensures asks { result.ask ≡ stopped.run_stop.ask }
+        ensures stands { request_position T.calls self.new
+            ≡ position_before T.calls self.old (Body stopped.run_stop.at stopped.journal) }
+        ensures begun { has_begun self.new.stage ≡ true }
+        ensures world { self.new.world ≡ self.old.world }
+        ensures former { Replaces T.calls self.old self.new result.former }
+    {
+        let StoppedBody { run_stop, journal } = stopped;
         let RunStop { at, ask } = run_stop;
         let at = replace_body(&mut self.stage, at);
         let journal = mem::replace(&mut self.journal, journal);
-        Ok(Advanced {
+        Advanced {
             ask,
             former: Former::Body(at, journal),
-        })
+        }
     }
 
     fn make_run(&self, tools: &mut T) -> Result<StoppedBody<T>, NoMemory>
@@ -431,7 +454,7 @@ impl<'a, T: CountedTools + 'a> Request<'a, T> {
     {
         match &self.stage {
             Stage::Visits(visit) => self.make_visit(visit, tools),
-            Stage::Begins | Stage::Over(_) => unreachable!(),
+            Stage::NotBegun | Stage::Over(_) => unreachable!(),
         }
     }
 
@@ -475,14 +498,8 @@ impl<'a, T: CountedTools + 'a> Request<'a, T> {
         ensures tools { BeginsWith (T.calls tools.old) (T.calls tools.new) }
         ensures err { OnErr result (self.new ≡ self.old) }
     {
-        let StoppedBody { run_stop, journal } = self.resume(learnt, replayed, tools, results)?;
-        let RunStop { at, ask } = run_stop;
-        let at = replace_body(&mut self.stage, at);
-        let journal = mem::replace(&mut self.journal, journal);
-        Ok(Advanced {
-            ask,
-            former: Former::Body(at, journal),
-        })
+        let stopped = self.resume(learnt, replayed, tools, results)?;
+        Ok(self.stop_body(stopped))
     }
 
     fn resume(
@@ -507,7 +524,7 @@ impl<'a, T: CountedTools + 'a> Request<'a, T> {
         let journal = journal_after(self.alloc, &self.journal, replayed, learnt, entries)?;
         match &self.stage {
             Stage::Visits(visit) => self.resume_visit(visit, journal, tools, results),
-            Stage::Begins | Stage::Over(_) => unreachable!(),
+            Stage::NotBegun | Stage::Over(_) => unreachable!(),
         }
     }
 

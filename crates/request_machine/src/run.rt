@@ -187,7 +187,7 @@ impl<T: CountedTools> Visit<T> {
             instance: &self.instance,
         };
         match project.target(&self.run.target) {
-            Some(_) => maker.begin(tools, &self.state.scope, journal),
+            Some(_) => maker.begin(tools, self.state.scope(), journal),
             None => maker.make_nothing(Snapshots::new()),
         }
     }

@@ -31,10 +31,27 @@ impl Drop for RequestScope {
     }
 }
 
+impl Model for RequestScope {
+    ghost use Rattle.request_machine.specs.Walk.{RequestScope as Told};
+
+    ghost Value = { Told };
+
+    ghost view = { λ s. record { scope = s.scope; returned = s.returned } };
+}
+
+impl RequestScope {
+    /// The scope with the changes of its runs.
+    pub fn scope(&self) -> &Scope
+        ensures { result.now ≡ self.now.scope }
+    {
+        &self.scope
+    }
+}
+
 /// How far a request has come.
 pub enum Stage<T> {
     /// Nothing was answered yet.
-    Begins,
+    NotBegun,
     Visits(Visit<T>),
     Over(Reply),
 }
@@ -43,7 +60,7 @@ pub enum Stage<T> {
 impl<T> Drop for Stage<T> {
     fn drop(self) {
         match self {
-            Stage::Begins => {}
+            Stage::NotBegun => {}
             Stage::Visits(_) => {}
             Stage::Over(_) => {}
         }
@@ -52,18 +69,18 @@ impl<T> Drop for Stage<T> {
 
 impl<T> Stage<T> {
     ghost use Rattle.std.specs.Prelude.{◌≡◌, IfOk, true};
-    ghost use Rattle.request_machine.specs.Stages.{ended_stage, is_fresh};
+    ghost use Rattle.request_machine.specs.Stages.{ended_stage, is_between_runs};
     ghost use Rattle.request_machine.specs.Asks.{AsksAt};
 
     /// What a request asks that has made or used these runs, and wants another one or is over.
     pub fn ask(&self, alloc: Global, runs: &SharedList<RunRef>) -> Result<Ask, NoMemory>
-        requires { is_fresh self.now ≡ true }
+        requires { is_between_runs self.now ≡ true }
         ensures { IfOk result (AsksAt runs.now self.now) }
     {
         match self {
             Stage::Visits(visit) => Ok(Ask::Want(visit.run.copy()?)),
             Stage::Over(reply) => Ok(Ask::Done(reply.result(alloc, runs)?)),
-            Stage::Begins => unreachable!(),
+            Stage::NotBegun => unreachable!(),
         }
     }
 
@@ -74,7 +91,7 @@ impl<T> Stage<T> {
     {
         match self {
             Stage::Over(reply) => Ok(Stage::Over(reply.copy()?)),
-            Stage::Begins | Stage::Visits(_) => Ok(Stage::Over(Reply::failure(alloc, None))),
+            Stage::NotBegun | Stage::Visits(_) => Ok(Stage::Over(Reply::failure(alloc, None))),
         }
     }
 }
@@ -84,7 +101,7 @@ pub type Uses<T> = Snapshots<Snapshots<T, u8>, Snapshots<T, u8>>;
 
 /// Where the run of a target stands.
 pub enum RunState<T> {
-    /// It is wanted, and nobody has said who makes it.
+    /// It is wanted, and no answer has come: it is made here, or another request makes it.
     Wanted,
     /// Its body has called requests, and waits for their results.
     Called(HeldBody, Uses<T>),

@@ -7,9 +7,8 @@ use Rattle.target_order.specs.Visit.{order}
 use Rattle.target_order.specs.declared.asks.OrderAnswer.TheVariants.{First}
 use Rattle.request_machine.specs.Stages.{StandsAt, StandsBy, left_by}
 use Rattle.request_machine.specs.Requests.{all_targets, has_no_targets}
-use Rattle.request_machine.specs.Walk.{nothing_ran, walk, walk_in, walk_unless}
+use Rattle.request_machine.specs.Walk.{RequestScope, nothing_ran, walk, walk_in, walk_unless}
 use Rattle.request_machine.specs.Worlds.{bodies_of, project_of}
-use Rattle.request_machine.specs.declared.stage.RequestScope.{RequestScope}
 use Rattle.request_machine.proofs.Starting.{next_left, tree_stands}
 use Rattle.request_machine.proofs.beginning.begin_visit.Goals as goal
 

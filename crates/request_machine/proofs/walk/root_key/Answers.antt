@@ -1,5 +1,4 @@
-use Rattle.std.proofs.Common.{not, refl, ap, ◌∙◌}
-use Rattle.result_cache.specs.declared.request.RequestKey.{RequestKey}
+use Rattle.std.proofs.Common.{not, ap, ◌∙◌}
 use Rattle.request_machine.proofs.WalksAnswered.{root_is, some_named}
 use Rattle.request_machine.proofs.walk.root_key.Goals as goal
 

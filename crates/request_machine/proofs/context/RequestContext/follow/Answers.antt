@@ -1,8 +1,8 @@
-use Rattle.std.proofs.Common.{◌≡◌, sym, ap, ◌∙◌}
+use Rattle.std.proofs.Common.{sym, ap, ◌∙◌}
 use Rattle.target_order.specs.Left.{left}
 use Rattle.request_machine.specs.Seen.{seen_project}
 use Rattle.request_machine.specs.Worlds.{Bodies}
-use Rattle.request_machine.specs.Walk.{answer_of, or_failed, walk}
+use Rattle.request_machine.specs.Walk.{run_answer, or_failed, walk}
 use Rattle.request_machine.proofs.Followed.{run_fits, run_goes, run_ready}
 use Rattle.request_machine.proofs.context.RequestContext.follow.Goals as goal
 
@@ -29,14 +29,14 @@ returns c =
     let next_stop = c.in_ok-next_stop.next_stop in
     let order_reply = c.in_ok-order_reply.order_reply in
     record {
-      ready = run_ready p key s journal copy now next_stop (answer_of p ok s journal name)
+      ready = run_ready p key s journal copy now next_stop (run_answer p ok s journal name)
           order_reply c.in_ok-order_reply.ensures c.in_ok-next_stop.ensures;
       goes = λ (bodies : Bodies).
-          ap (λ x. or_failed (answer_of p ok x journal name)
+          ap (λ x. or_failed (run_answer p ok x journal name)
           (λ answer. walk p key bodies (left c.args.order.now answer) x journal))
           (sym c.in_ok-state.ensures)
-          ∙ (ap (λ o. or_failed (answer_of p ok s journal name)
+          ∙ (ap (λ o. or_failed (run_answer p ok s journal name)
           (λ answer. walk p key bodies (left o answer) s journal)) (sym c.in_ok-order.ensures)
-          ∙ run_goes p key s journal copy now next_stop (answer_of p ok s journal name) order_reply
+          ∙ run_goes p key s journal copy now next_stop (run_answer p ok s journal name) order_reply
           c.in_ok-order_reply.ensures c.in_ok-next_stop.ensures bodies);
     }

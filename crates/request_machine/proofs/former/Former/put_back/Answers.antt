@@ -5,7 +5,7 @@ use Rattle.request_machine.specs.Former.{
   body_before,
   position_before,
   visit_before,
-  was_begun,
+  had_begun,
   with_at,
 }
 use Rattle.request_machine.proofs.PutBack.{is_visit, shown_begun, shown_own, shown_position}
@@ -32,7 +32,7 @@ returns-in-Body-clause-begun g c =
     let r = c.args.request.now in
     let fits = ∥∥₁_map c.requires (subst (IsFormer r.key.instance r.stage) c.in-Body.is) in
     shown_begun c.replace_body-now.new.stage (body_before r.stage c.in-Body.at) r.key.instance
-    c.replace_body-now.ensures.now fits ∙ sym (ap was_begun c.in-Body.is)
+    c.replace_body-now.ensures.now fits ∙ sym (ap had_begun c.in-Body.is)
 
 pub put_back-requires : goal.put_back-requires
 put_back-requires g c =
@@ -63,4 +63,4 @@ returns-in-Visit-clause-begun g c =
     let r = c.args.request.now in
     let fits = ∥∥₁_map c.requires (subst (IsFormer r.key.instance r.stage) c.in-Visit.is) in
     shown_begun c.put_back.new.stage (visit_before r.stage c.in-Visit.visit) r.key.instance
-    c.put_back.ensures fits ∙ sym (ap was_begun c.in-Visit.is)
+    c.put_back.ensures fits ∙ sym (ap had_begun c.in-Visit.is)

@@ -1,6 +1,5 @@
-use Rattle.std.proofs.Common.{◌≡◌, IsSome, sym, ap, ◌∙◌, subst}
+use Rattle.std.proofs.Common.{IsSome, subst}
 use Rattle.build_scheduler.specs.Position.{answered}
-use Rattle.build_scheduler.specs.declared.walker.Answer.TheVariants.{Go, Use, Results}
 use Rattle.request_machine.specs.Answered.{IsNext}
 use Rattle.request_machine.specs.Stages.{has_begun}
 use Rattle.request_machine.specs.WalkPosition.{request_position}

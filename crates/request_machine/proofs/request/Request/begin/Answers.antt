@@ -9,7 +9,7 @@ use Rattle.request_machine.specs.Positions.{position_of}
 use Rattle.request_machine.specs.Walk.{Site}
 use Rattle.request_machine.specs.Worlds.{world_of}
 use Rattle.request_machine.proofs.OtherWorlds.{stands_alike}
-use Rattle.request_machine.proofs.PlacesAnswered.{first_goes, first_used, fresh_begun}
+use Rattle.request_machine.proofs.PlacesAnswered.{first_goes, first_used, between_begun}
 use Rattle.request_machine.proofs.PutBack.{unbegun_is}
 use Rattle.request_machine.proofs.request.Request.begin.Goals as goal
 
@@ -45,7 +45,7 @@ returns g c =
       used = ap (λ p. used_between p.place new.place) (sym alike)
           ∙ first_used answer calls there r.key [] r.journal r.runs r.stage begun.stage unbegun
           e.stands;
-      begun = fresh_begun begun.stage e.stands.fresh;
+      begun = between_begun begun.stage e.stands.between;
       world = sym same;
       former = record {
         fits = tt;

@@ -1,4 +1,4 @@
-use Rattle.std.proofs.Common.{◌≡◌, IsSome, sym, ap, ◌∙◌, subst}
+use Rattle.std.proofs.Common.{IsSome, sym, ap, ◌∙◌, subst}
 use Rattle.build_meaning.specs.SoFar.{runs_of}
 use Rattle.result_cache.specs.Replay.{replay_all}
 use Rattle.request_machine.specs.StoppedBodies.{IsResumed}

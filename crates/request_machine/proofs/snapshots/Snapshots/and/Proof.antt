@@ -72,7 +72,8 @@ module _ (A B : RattleType) where
 
   abbrev stayed : Stays ended.signature.params ended.kept
   stayed = (
-    stay_dropped (RefOf (0 ∷ []) tt (plain (λ _. Snapshots.the_row (param 0 A) (param 1 B))) (λ _. tt))
+    stay_dropped
+        (RefOf (0 ∷ []) tt (plain (λ _. Snapshots.the_row (param 0 A) (param 1 B))) (λ _. tt))
         yes,
     (
       stay_dropped (RefOf (1 ∷ []) tt (plain (λ _. param 0 A)) (λ _. tt)) yes,
@@ -139,7 +140,8 @@ module _ (A B : RattleType) where
     meets 𝓣 =
         walk_Meets 𝓛 ended stayed (
           Goes-dropped 𝓛 5
-              (RefOf (0 ∷ []) tt (plain (λ _. Snapshots.the_row (param 0 A) (param 1 B))) (λ _. tt)) yes
+              (RefOf (0 ∷ []) tt (plain (λ _. Snapshots.the_row (param 0 A) (param 1 B))) (λ _. tt))
+              yes
               (λ κs x f. refl),
           (
             Goes-dropped 𝓛 5 (RefOf (1 ∷ []) tt (plain (λ _. param 0 A)) (λ _. tt)) yes

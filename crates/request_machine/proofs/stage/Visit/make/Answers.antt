@@ -13,6 +13,8 @@ use Rattle.std.proofs.Common.{
   subst,
 }
 use Rattle.std.proofs.lemmas.Result.{IfOk-weaker}
+use Rattle.msb_values.specs.declared.scope.Scope.{Scope}
+use Rattle.result_cache.specs.declared.run.RunId.{RunId}
 use Rattle.build_meaning.specs.SoFar.{nothing_yet, recorded}
 use Rattle.build_world.specs.Instances.{seen_instance, seen_target}
 use Rattle.target_body.specs.States.{target_named}
@@ -37,15 +39,16 @@ returns-in-Some g c =
     let w = c.args.world.now in
     let v = c.args.self.now in
     let targets = (seen_instance v.instance).targets in
-    let scope = v.state.scope in
     let before = c.args.journal.now in
     let after = c.begin.new.journal in
     let same = c.in_ok-run.ensures in
     record {
       goes = subst
-          (λ run. IfOk c.begin.result (λ run_stop. let target = target_named targets run.target in
-          Stops answer calls w run target (body_if w run target scope before) nothing_yet before
-          after c.args.tools.now c.begin.new.tools run_stop)) same c.begin.ensures.goes;
+          (λ (x : RunId × Scope). IfOk c.begin.result (λ run_stop.
+          let target = target_named targets x.0.target in
+          Stops answer calls w x.0 target (body_if w x.0 target x.1 before) nothing_yet before
+          after c.args.tools.now c.begin.new.tools run_stop)) (λ i. (same i, c.scope.ensures i))
+          c.begin.ensures.goes;
       tools = c.begin.ensures.tools;
       run = subst (λ run. IfOk c.begin.result (λ run_stop. run_in run run_stop.at ≡ run)) same
           c.begin.ensures.run;

@@ -1,4 +1,4 @@
-use Rattle.std.proofs.Common.{[], ap, ◌∙◌}
+use Rattle.std.proofs.Common.{ap, ◌∙◌}
 use Rattle.build_scheduler.specs.Position.{begins}
 use Rattle.request_machine.specs.Worlds.{root_of, world_of}
 use Rattle.request_machine.proofs.walk.Walk.start.Goals as goal

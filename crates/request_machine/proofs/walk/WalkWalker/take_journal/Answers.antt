@@ -1,4 +1,4 @@
-use Rattle.std.proofs.Common.{Some, IfSome, refl, sym, ap, ◌∙◌, subst}
+use Rattle.std.proofs.Common.{Some, sym, ap, ◌∙◌, subst}
 use Rattle.build_scheduler.specs.Learnt.{ArePartOf}
 use Rattle.result_cache.specs.Replay.{replay_all}
 use Rattle.result_cache.specs.Table.{TableRuns}
