@@ -39,7 +39,7 @@ use Rattle.build_nodes.specs.Leaving.{has_left, is_retire_of}
 use Rattle.build_nodes.specs.Marked.{marked}
 use Rattle.build_nodes.specs.Turns.{IsBrought, IsIdle, number_of}
 use Rattle.build_nodes.proofs.Either.{or-assoc, or-none, or-right}
-use Rattle.build_nodes.proofs.Marks.{continues-of, drop-front}
+use Rattle.build_nodes.proofs.Marks.{since}
 
 -- a node has left where its Retire is among the events, or an end is told
 pub left-is : (node : ℕ) (xs : List Event) (end : Option End)
@@ -144,14 +144,12 @@ module _ {W P I A : Type 0} (seen : W → Seen P I A) (earlier : W → Option (P
       from : IsIdle seen earlier node w (marked events end) (number_of b)
           → has_left node (marked events end) ≡ false
       from k =
-          let m = continues-of k.events events None end k.begins in
-          let behind : drop (number_of b) events ≡ m.0 = ap (λ n. drop n events) k.number_is
-          ∙ (ap (drop (length k.events)) m.1 ∙ drop-front k.events m.0) in
+          let m = since k.events events end (number_of b) k.number_is k.begins in
           left-none node events end none (ap (list_any (is_retire_of node)) m.1
           ∙ (any-append node k.events m.0
           ∙ (ap (λ x. x || list_any (is_retire_of node) m.0)
           (none-left node k.events None refl k.active)
-          ∙ (ap (list_any (is_retire_of node)) (sym behind) ∙ e))))
+          ∙ (ap (list_any (is_retire_of node)) (sym m.2) ∙ e))))
 
   -- a node without a request
   pub idle-now : (events : List Event) (end : Option End) (number : ℕ) → end ≡ None

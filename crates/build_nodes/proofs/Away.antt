@@ -57,7 +57,7 @@ use Rattle.build_nodes.specs.Marked.{marked}
 use Rattle.build_nodes.specs.Turns.{CanGoBack, IsAnswered, IsAsking}
 use Rattle.build_nodes.proofs.Here.{still-here}
 use Rattle.build_nodes.proofs.HistoryParts.{goes-on}
-use Rattle.build_nodes.proofs.Marks.{none-more, continues-of, drop-front}
+use Rattle.build_nodes.proofs.Marks.{none-more, since}
 
 module _ {P I A : Type 0} (w : World P I A) where
   answered-newer : {T U : Records} → Newer T U → (p next : Position P I A) (answer : Answer)
@@ -147,36 +147,30 @@ seen-same s t world position asked learnt = λ i.
 
 module _ {W P I A : Type 0} (seen : W → Seen P I A) (earlier : W → Option (Position P I A × ℕ))
     (node : ℕ) (w : World P I A) where
-  module _ {log : History} {origins : List Origin} {slots : List (Slot W)}
+  module _ {history : History} {origins : List Origin} {slots : List (Slot W)}
       {making : List (Option RunId)} {table : TableRuns} {end : Option End}
-      (x : Shown seen w log origins slots making table end) where
+      (x : Shown seen w history origins slots making table end) where
     -- none of the events behind the node's own is of the request
-    pub asking-still : (a : Asking W) → IsAsking seen earlier node w (marked log.events end) a
-        → AreOfOthers a.id (drop a.number log.events)
-        → IsOwn w log.events table.finished a.id (seen a.walk)
+    pub asking-still : (a : Asking W) → IsAsking seen earlier node w (marked history.events end) a
+        → AreOfOthers a.id (drop a.number history.events)
+        → IsOwn w history.events table.finished a.id (seen a.walk)
     asking-still a k others =
-        let m = continues-of k.events log.events None end k.begins in
-        let behind : drop a.number log.events ≡ m.0 = ap (λ n. drop n log.events) k.number
-        ∙ (ap (drop (length k.events)) m.1 ∙ drop-front k.events m.0) in
-        own-still w k.events m.0 log.events k.table table.finished a.id (seen a.walk) x.state k.own
-        k.table_is m.1 (subst (AreOfOthers a.id) behind others) x.history x.finished
+        let m = since k.events history.events end a.number k.number k.begins in
+        own-still w k.events m.0 history.events k.table table.finished a.id (seen a.walk) x.state
+        k.own k.table_is m.1 (subst (AreOfOthers a.id) m.2 others) x.history x.finished
 
-    pub asking-here : (a : Asking W) → IsAsking seen earlier node w (marked log.events end) a
-        → AreOfOthers a.id (drop a.number log.events) → IsAssignedTo w log.events a.id node
+    pub asking-here : (a : Asking W) → IsAsking seen earlier node w (marked history.events end) a
+        → AreOfOthers a.id (drop a.number history.events) → IsAssignedTo w history.events a.id node
     asking-here a k others =
-        let m = continues-of k.events log.events None end k.begins in
-        let behind : drop a.number log.events ≡ m.0 = ap (λ n. drop n log.events) k.number
-        ∙ (ap (drop (length k.events)) m.1 ∙ drop-front k.events m.0) in
-        still-here w k.events m.0 log.events a.id node x.state k.here m.1
-        (subst (AreOfOthers a.id) behind others) x.history
+        let m = since k.events history.events end a.number k.number k.begins in
+        still-here w k.events m.0 history.events a.id node x.state k.here m.1
+        (subst (AreOfOthers a.id) m.2 others) x.history
 
-    pub asking-back : (a : Asking W) → IsAsking seen earlier node w (marked log.events end) a
-        → AreOfOthers a.id (drop a.number log.events)
-        → CanGoBack seen earlier w log.events table.finished a.id a.walk a.answer
+    pub asking-back : (a : Asking W) → IsAsking seen earlier node w (marked history.events end) a
+        → AreOfOthers a.id (drop a.number history.events)
+        → CanGoBack seen earlier w history.events table.finished a.id a.walk a.answer
     asking-back a k others =
-        let m = continues-of k.events log.events None end k.begins in
-        let behind : drop a.number log.events ≡ m.0 = ap (λ n. drop n log.events) k.number
-        ∙ (ap (drop (length k.events)) m.1 ∙ drop-front k.events m.0) in
+        let m = since k.events history.events end a.number k.number k.begins in
         let b = k.back in
         let table_is = ap (λ (s : State P I A). s.table)
         (one_state w k.events b.out.stands.state k.own.stands.state b.out.stands.history
@@ -185,51 +179,49 @@ module _ {W P I A : Type 0} (seen : W → Seen P I A) (earlier : W → Option (P
           position = b.position;
           asked = b.asked;
           stood = b.stood;
-          out = out-still w k.events m.0 log.events k.table table.finished a.id _ a.answer x.state
-              b.out table_is m.1 (subst (AreOfOthers a.id) behind others) x.history x.finished;
+          out = out-still w k.events m.0 history.events k.table table.finished a.id _ a.answer
+              x.state b.out table_is m.1 (subst (AreOfOthers a.id) m.2 others) x.history x.finished;
         }
 
     -- so it is with a walk that there was no memory to advance
-    pub answered-still : (a : Answered W) → IsAnswered seen earlier node w (marked log.events end) a
-        → AreOfOthers a.id (drop a.number log.events)
-        → IsOut w log.events table.finished a.id (seen a.walk) a.answer
+    pub answered-still : (a : Answered W)
+        → IsAnswered seen earlier node w (marked history.events end) a
+        → AreOfOthers a.id (drop a.number history.events)
+        → IsOut w history.events table.finished a.id (seen a.walk) a.answer
     answered-still a k others =
-        let m = continues-of k.events log.events None end k.begins in
-        let behind : drop a.number log.events ≡ m.0 = ap (λ n. drop n log.events) k.number
-        ∙ (ap (drop (length k.events)) m.1 ∙ drop-front k.events m.0) in
-        out-still w k.events m.0 log.events k.table table.finished a.id (seen a.walk) a.answer
-        x.state k.out k.table_is m.1 (subst (AreOfOthers a.id) behind others) x.history
+        let m = since k.events history.events end a.number k.number k.begins in
+        out-still w k.events m.0 history.events k.table table.finished a.id (seen a.walk) a.answer
+        x.state k.out k.table_is m.1 (subst (AreOfOthers a.id) m.2 others) x.history
         x.finished
 
-    pub answered-here : (a : Answered W) → IsAnswered seen earlier node w (marked log.events end) a
-        → AreOfOthers a.id (drop a.number log.events) → IsAssignedTo w log.events a.id node
+    pub answered-here : (a : Answered W)
+        → IsAnswered seen earlier node w (marked history.events end) a
+        → AreOfOthers a.id (drop a.number history.events) → IsAssignedTo w history.events a.id node
     answered-here a k others =
-        let m = continues-of k.events log.events None end k.begins in
-        let behind : drop a.number log.events ≡ m.0 = ap (λ n. drop n log.events) k.number
-        ∙ (ap (drop (length k.events)) m.1 ∙ drop-front k.events m.0) in
-        still-here w k.events m.0 log.events a.id node x.state k.here m.1
-        (subst (AreOfOthers a.id) behind others) x.history
+        let m = since k.events history.events end a.number k.number k.begins in
+        still-here w k.events m.0 history.events a.id node x.state k.here m.1
+        (subst (AreOfOthers a.id) m.2 others) x.history
 
     -- a walk with its next answer, for which it knows enough
     pub handed : (id : ℕ) (walk : W) (answer : Answer) (number : ℕ) → end ≡ None →
-        has_left node (marked log.events end) ≡ false → IsAssignedTo w log.events id node →
-        IsOut w log.events table.finished id (seen walk) answer →
-        number ≡ length log.events → length log.events < 2 ^ 63 →
+        has_left node (marked history.events end) ≡ false → IsAssignedTo w history.events id node →
+        IsOut w history.events table.finished id (seen walk) answer →
+        number ≡ length history.events → length history.events < 2 ^ 63 →
         AreAlike (seen walk).world (seen walk).learnt table.finished (seen walk).position answer →
-        IsAnswered seen earlier node w (marked log.events end)
+        IsAnswered seen earlier node w (marked history.events end)
         (record { id = id; walk = walk; answer = answer; number = number })
     handed id walk answer number none active here o n few enough =
         let enough_so : AreAlike w (seen walk).learnt table.finished (seen walk).position answer =
         subst (λ (v : World P I A).
         AreAlike v (seen walk).learnt table.finished (seen walk).position answer) o.world enough in
-        let same = one_state w log.events o.stands.state x.state o.stands.history x.history in
+        let same = one_state w history.events o.stands.state x.state o.stands.history x.history in
         record {
-          events = log.events;
+          events = history.events;
           table = table.finished;
           number = n;
           few = few;
-          begins = none-more log.events log.events None end refl refl;
-          active = ap (λ o. has_left node (marked log.events o)) (sym none) ∙ active;
+          begins = none-more history.events history.events None end refl refl;
+          active = ap (λ o. has_left node (marked history.events o)) (sym none) ∙ active;
           here = here;
           out = o;
           table_is = ap (λ (s : State P I A). s.table) same ∙ sym x.finished;
@@ -331,7 +323,8 @@ module _ {W P I A : Type 0} (seen : W → Seen P I A) (earlier : W → Option (P
       pub answer-fits : IsSome
           (answered (seen a.walk).world (seen a.walk).learnt (seen a.walk).position a.answer)
       answer-fits = ap is_some
-          (subst (λ (v : World P I A). answered v (seen a.walk).learnt (seen a.walk).position a.answer
+          (subst
+          (λ (v : World P I A). answered v (seen a.walk).learnt (seen a.walk).position a.answer
           ≡ Some k.out.next) (sym k.out.world) k.enough)
 
       pub answer-in-room : (seen a.walk).asked < 2 ^ 63

@@ -33,12 +33,13 @@ pub built-continues : (before after : List Event) (b a : Option End)
 built-continues before after b a first last f p l = ∣ continues-of before after b a
     (subst (λ x. IsPrefix x (marked after a)) f (subst (IsPrefix first) (sym l) p)) ∣₁
 
-pub built-legal : {W P I A : Type 0} (seen : W → Seen P I A) (w v : World P I A) {log : History}
+pub built-legal : {W P I A : Type 0} (seen : W → Seen P I A) (w v : World P I A) {history : History}
     {origins : List Origin} {slots : List (Slot W)} {making : List (Option RunId)}
     {table : TableRuns} {end : Option End} →
-    ∥ Shown seen w log origins slots making table end ∥₁ → ∥ w ≡ v ∥₁ → ∥ IsLegal v log.events ∥₁
-built-legal seen w v {log} legal same = ∥∥₁_map₂ legal same
-    (λ x e. (x.state, subst (λ (v : World _ _ _). IsHistory v log.events x.state) e x.history))
+    ∥ Shown seen w history origins slots making table end ∥₁ → ∥ w ≡ v ∥₁
+    → ∥ IsLegal v history.events ∥₁
+built-legal seen w v {history} legal same = ∥∥₁_map₂ legal same
+    (λ x e. (x.state, subst (λ (v : World _ _ _). IsHistory v history.events x.state) e x.history))
 
 pub built-told : {P I A : Type 0} (w v : World P I A) (events : List Event) (end : Option End)
     → ∥ w ≡ v ∥₁ → IsEnd w events end → IsEnd v events end

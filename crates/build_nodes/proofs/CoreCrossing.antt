@@ -37,6 +37,8 @@ use Rattle.build_scheduler.specs.contracts.kept.KeptEnds as KeptEnds
 use Rattle.build_scheduler.specs.contracts.history.History as History
 use Rattle.build_scheduler.specs.contracts.released.Released as Released
 use Rattle.build_scheduler.specs.contracts.request_set.RequestSet as RequestSet
+use Rattle.build_scheduler.specs.contracts.preferred.InstanceRequests as InstanceRequests
+use Rattle.build_scheduler.specs.contracts.preferred.Preferred as Preferred
 use Rattle.build_scheduler.specs.contracts.slot.Calls as Calls
 use Rattle.build_scheduler.specs.contracts.slot.End as End
 use Rattle.build_scheduler.specs.contracts.slot.Origin as Origin
@@ -165,6 +167,17 @@ released-send : (W : RattleType) → IsSend W → IsSend (Released.the_field W).
 released-send W s = struct_send (Struct.shape (Released.the_type W))
     (Vec-send (Kept.the_row W) (Kept-send W s), (Vec-send W s, tt))
 
+InstanceRequests-send : IsSend InstanceRequests.the_row
+InstanceRequests-send = recorded_send _ _ _ InstanceRequests.the_type.to_one
+    (struct_send (Struct.shape InstanceRequests.the_type)
+    (search sendable, (search (owned, sendable) depth 20, tt)))
+
+preferred-send : IsSend Preferred.the_field.row
+preferred-send = struct_send (Struct.shape Preferred.the_type) (
+  search (owned, sendable) depth 20,
+  (Vec-send InstanceRequests.the_row InstanceRequests-send, tt),
+)
+
 module _ (S V K P : RattleType) (g : TableRule.Ghosts P.Denot S.Denot V.Denot K.Denot)
     (s : IsSend S) where
   table-sync : IsSync (Table.the_field S V K P Heap.the_row g heap).row
@@ -223,7 +236,7 @@ module _ (W P O : RattleType) (g : Walker.Ghosts W.Denot P.Denot O.Denot) (s : I
                     Instances-send,
                     (
                       search (End-send, owned, sendable) depth 20,
-                      (ends-send W s, (released-send W s, tt)),
+                      (ends-send W s, (released-send W s, (preferred-send, tt))),
                     ),
                   ),
                 ),
@@ -249,7 +262,8 @@ module _ (W P O : RattleType) (g : Walker.Ghosts W.Denot P.Denot O.Denot) (s : I
         search sendable,
         (
           seat-send (Shared.the_row W P O g) (Core.the_row W P O g) (Option.the_row Event.the_row)
-              (histories.ghosts W P O g histories.no_dict histories.no_dict histories.no_dict) Shared-send,
+              (histories.ghosts W P O g histories.no_dict histories.no_dict histories.no_dict)
+              Shared-send,
           (p, tt),
         ),
       ))

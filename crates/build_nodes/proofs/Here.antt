@@ -33,7 +33,22 @@ use Rattle.build_meaning.specs.SoFar.{nothing_yet, recorded}
 use Rattle.build_meaning.specs.Stop.{ends, asks, run_on}
 use Rattle.build_meaning.specs.Walk.{gives, wants}
 use Rattle.build_meaning.specs.World.{World}
-use Rattle.build_meaning.specs.State.{with_status, Place, walking, within, Status, ready, assigned, waits, calling, done, RequestState, State, with_request, start}
+use Rattle.build_meaning.specs.State.{
+  with_status,
+  Place,
+  walking,
+  within,
+  Status,
+  ready,
+  assigned,
+  waits,
+  calling,
+  done,
+  RequestState,
+  State,
+  with_request,
+  start,
+}
 use Rattle.build_meaning.specs.Step.{
   whose,
   only_if,
@@ -149,29 +164,18 @@ module _ {P I A : Type 0} (w : World P I A) where
       let f : FinishedRun = record { run = y.0.run; made = made } in
       let z : RequestState P I A = goes_on w (assigned node) q y.0.run y.0.go made
       (add q.journal (ended y.0.run made)) in
-      let u = and_then-some (traverse (woken w (f ∷ s.table) y.0.run made) (put s.requests id z))
-      (λ requests.
-      Some
-      (record {
+      let with_requests : List (RequestState P I A) → State P I A = λ requests. record {
         requests = requests;
         begun = s.begun;
-        table = f
-            ∷ s.table;
-        tools_used = record { run = y.0.run; tools = y.0.so_far.tools }
-            ∷ s.tools_used;
-      })) t y.2 in
-      let last : State P I A = record {
-        requests = u.0;
-        begun = s.begun;
-        table = f
-            ∷ s.table;
-        tools_used = record { run = y.0.run; tools = y.0.so_far.tools }
-            ∷ s.tools_used;
+        table = f ∷ s.table;
+        tools_used = record { run = y.0.run; tools = y.0.so_far.tools } ∷ s.tools_used;
       } in
+      let u = and_then-some (traverse (woken w (f ∷ s.table) y.0.run made) (put s.requests id z))
+      (λ requests. Some (with_requests requests)) t y.2 in
       let k = traverse-at (woken w (f ∷ s.table) y.0.run made) (put s.requests id z) u.0 u.1 id z
       (at-put_same s.requests id (with_status q (assigned node (within x (ends outcome))))
       z e) in
-      subst (λ (v : State P I A). HasIt v id node) (some-is last t u.2)
+      subst (λ (v : State P I A). HasIt v id node) (some-is (with_requests u.0) t u.2)
       (record {
         request = z;
         place = walking (y.0.go made (add q.journal (ended y.0.run made)));
@@ -237,31 +241,31 @@ module _ {P I A : Type 0} (w : World P I A) where
         ap (step_of w b.state event) (some-is _ b.request (sym (own-before event is b) ∙ there))
         ∙ b.goes
 
+    at-event : (event : Event) → whose event ≡ id
+        → ((s : State P I A) → at s.requests id
+        ≡ Some (with_status here.request (assigned node here.place))
+        → step_of w s event (with_status here.request (assigned node here.place)) ≡ Some t
+        → HasIt t id node)
+        → after ≡ events ++ event ∷ [] → IsHistory w after t → IsAssignedTo w after id node
+    at-event event is has e h =
+        let b = before-last events event t (subst (λ es. IsHistory w es t) e h) in
+        has-here after t id node h (has b.state (own-before event is b) (stepped event is b))
+
     -- a request stays with its node where its run is begun, used or finished
     pub going-here : (run : RunId) → after ≡ events ++ Claim id run Go ∷ [] → IsHistory w after t
         → IsAssignedTo w after id node
-    going-here run e h =
-        let b = before-last events (Claim id run Go) t (subst (λ es. IsHistory w es t) e h) in
-        has-here after t id node h
-        (go-it b.state t id node here.request
-        here.place run (own-before (Claim id run Go) refl b) (stepped (Claim id run Go) refl b))
+    going-here run = at-event (Claim id run Go) refl
+        (λ s there goes. go-it s t id node here.request here.place run there goes)
 
     pub using-here : (run : RunId) → after ≡ events ++ Claim id run Use ∷ [] → IsHistory w after t
         → IsAssignedTo w after id node
-    using-here run e h =
-        let b = before-last events (Claim id run Use) t (subst (λ es. IsHistory w es t) e h) in
-        has-here after t id node h
-        (use-it b.state t id node here.request
-        here.place run (own-before (Claim id run Use) refl b)
-        (stepped (Claim id run Use) refl b))
+    using-here run = at-event (Claim id run Use) refl
+        (λ s there goes. use-it s t id node here.request here.place run there goes)
 
     pub finished-here : (run : RunId) → after ≡ events ++ Result id run ∷ [] → IsHistory w after t
         → IsAssignedTo w after id node
-    finished-here run e h =
-        let b = before-last events (Result id run) t (subst (λ es. IsHistory w es t) e h) in
-        has-here after t id node h
-        (result-it b.state t id node here.request
-        here.place run (own-before (Result id run) refl b) (stepped (Result id run) refl b))
+    finished-here run = at-event (Result id run) refl
+        (λ s there goes. result-it s t id node here.request here.place run there goes)
 
   -- and through the events of others
   pub still-here : (before more events : List Event) (id node : ℕ) (t : State P I A)
@@ -299,42 +303,42 @@ module _ {P I A : Type 0} (w : World P I A) where
       some-is node other (sym (ap assigned-of x.is)
       ∙ (ap (λ (r : RequestState P I A). assigned-of r.status) q ∙ ap assigned-of y.is))
 
-module _ {W P I A : Type 0} (seen : W → Seen P I A) (w : World P I A) {log : History}
+module _ {W P I A : Type 0} (seen : W → Seen P I A) (w : World P I A) {history : History}
     {origins : List Kept} {slots : List (Slot W)} {making : List (Option RunId)} {table : TableRuns}
     {end : Option End} where
   pub assign-shown : (events : List Event) (id node : ℕ)
-      → log.events ≡ events ++ Assign id node ∷ []
-      → ∥ Shown seen w log origins slots making table end ∥₁
-      → ∥ IsAssignedTo w log.events id node ∥₁
+      → history.events ≡ events ++ Assign id node ∷ []
+      → ∥ Shown seen w history origins slots making table end ∥₁
+      → ∥ IsAssignedTo w history.events id node ∥₁
   assign-shown events id node e x = ∥∥₁_map x
-      (λ x. assigned-here w events log.events x.state id node e x.history)
+      (λ x. assigned-here w events history.events x.state id node e x.history)
 
   module _ (events : List Event) (id node : ℕ) (v : World P I A) (same : w ≡ v)
       (here : ∥ IsAssignedTo v events id node ∥₁)
-      (x : ∥ Shown seen w log origins slots making table end ∥₁) where
+      (x : ∥ Shown seen w history origins slots making table end ∥₁) where
     was : ∥ IsAssignedTo w events id node ∥₁
     was = subst (λ (u : World P I A). ∥ IsAssignedTo u events id node ∥₁) (sym same) here
 
     -- the request goes on
-    pub claim-shown : (ask : Ask) (answer : Answer) → IsClaim events log.events id ask answer
-        → ∥ IsAssignedTo w log.events id node ∥₁
+    pub claim-shown : (ask : Ask) (answer : Answer) → IsClaim events history.events id ask answer
+        → ∥ IsAssignedTo w history.events id node ∥₁
     claim-shown (Want run) Goes e = ∥∥₁_map₂ was x
-        (λ here x. going-here w events log.events x.state id node here run e x.history)
+        (λ here x. going-here w events history.events x.state id node here run e x.history)
     claim-shown (Want run) Uses e = ∥∥₁_map₂ was x
-        (λ here x. using-here w events log.events x.state id node here run e x.history)
+        (λ here x. using-here w events history.events x.state id node here run e x.history)
     claim-shown (Want run) _ e = absurd e
     claim-shown (Call calls) answer e = absurd e
     claim-shown (Finished run made) answer e = absurd e
     claim-shown (Done told) answer e = absurd e
 
-    pub result-shown : (ask : Ask) → IsResult events log.events id ask
-        → ∥ IsAssignedTo w log.events id node ∥₁
+    pub result-shown : (ask : Ask) → IsResult events history.events id ask
+        → ∥ IsAssignedTo w history.events id node ∥₁
     result-shown (Finished run made) e = ∥∥₁_map₂ was x
-        (λ here x. finished-here w events log.events x.state id node here run e x.history)
+        (λ here x. finished-here w events history.events x.state id node here run e x.history)
     result-shown (Want run) e = absurd e
     result-shown (Call calls) e = absurd e
     result-shown (Done told) e = absurd e
 
     -- nothing has changed
-    pub kept-shown : log.events ≡ events → ∥ IsAssignedTo w log.events id node ∥₁
+    pub kept-shown : history.events ≡ events → ∥ IsAssignedTo w history.events id node ∥₁
     kept-shown e = subst (λ es. ∥ IsAssignedTo w es id node ∥₁) (sym e) was

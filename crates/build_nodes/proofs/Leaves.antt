@@ -17,6 +17,8 @@ use Rattle.std.proofs.Common.{
   ◌++◌,
   length,
   map,
+  take,
+  drop,
   Option,
   Some,
   None,
@@ -27,8 +29,10 @@ use Rattle.std.proofs.Common.{
   subst,
   ◌∙◌,
   arith,
+  take-append-drop,
 }
 use Rattle.std.proofs.Math.Logic.{∥∥₁_elim}
+use Rattle.std.proofs.lemmas.List.{map-append}
 use Rattle.std.proofs.lemmas.Bool.{eq-eqb, eqb-true}
 use Rattle.std.proofs.Props.{props}
 use Rattle.std.specs.Prelude.{is_some, IsSome}
@@ -216,6 +220,25 @@ all-below (suc n) ms h =
 pub record HaveLeft (numbers : List ℕ) (seen : List (Option Event)) : Type 0 where
   pub each : (n : ℕ) → among n numbers ≡ true → has_left n seen ≡ true
 
+among-either : (k : ℕ) (xs ys : List ℕ) (P : Type 0) → (among k xs ≡ true → P)
+    → (among k ys ≡ true → P) → among k (xs ++ ys) ≡ true → P
+among-either k [] ys P f g e = g e
+among-either k (x ∷ xs) ys P f g e =
+    or-either (x == k) (among k (xs ++ ys)) P (λ is. f (or-left (x == k) (among k xs) is))
+    (among-either k xs ys P (λ more. f (or-right (x == k) (among k xs) more)) g) e
+
+both-left : (xs ys : List ℕ) (seen : List (Option Event)) → HaveLeft xs seen → HaveLeft ys seen
+    → HaveLeft (xs ++ ys) seen
+both-left xs ys seen x y = record {
+  each = λ n among. among-either n xs ys (has_left n seen ≡ true) (x.each n) (y.each n) among;
+}
+
+pub left-later : (numbers : List ℕ) (seen now : List (Option Event)) → IsPrefix seen now
+    → HaveLeft numbers seen → HaveLeft numbers now
+left-later numbers seen now p h = record {
+  each = λ n among. left-stays n seen now p (h.each n among);
+}
+
 below-other : (n k : ℕ) → k < suc n → (n ≡ k → ⊥) → k < n
 below-other zero zero lt d = absurd (d refl)
 below-other zero (suc k) lt d = absurd (omega arith)
@@ -256,3 +279,14 @@ module _ {N : Type 0} (number : N → ℕ) (seen : List (Option Event)) where
       → All (λ n. has_left (number n) seen ≡ true) all → HaveLeft numbers seen
   have-left all numbers e h = subst (λ ns. HaveLeft ns seen) e
       (record { each = λ k among. at-each all h k among })
+
+  -- the first of them, and those behind
+  pub all-left : (all front behind : List N) (at : ℕ) → front ≡ take at all → behind ≡ drop at all
+      → HaveLeft (map number front) seen → HaveLeft (map number behind) seen
+      → HaveLeft (map number all) seen
+  all-left all front behind at f b x y =
+      let whole : front ++ behind ≡ all = ap (λ xs. xs ++ behind) f
+      ∙ (ap (λ xs. take at all ++ xs) b ∙ take-append-drop at all) in
+      subst (λ ns. HaveLeft ns seen)
+      (sym (map-append number front behind) ∙ ap (map number) whole)
+      (both-left (map number front) (map number behind) seen x y)

@@ -7,8 +7,10 @@ pub mod Turning
 pub mod Crossing
 pub mod CoreCrossing
 pub mod Seated
+pub mod Joining
 pub mod Built
 pub mod Leaves
 pub mod Active
+pub mod Replies
 pub mod Fitting
 pub mod Repeats

@@ -104,6 +104,17 @@ pub drop-front : {X : Type 0} (xs ys : List X) → drop (length xs) (xs ++ ys) �
 drop-front [] ys = refl
 drop-front (x ∷ xs) ys = drop-front xs ys
 
+-- the events behind those that a node saw last, of which there were so many
+pub since : (events log : List Event) (end : Option End) (number : ℕ) → number ≡ length events
+    → IsPrefix (marked events None) (marked log end)
+    → (more : List Event) × (log ≡ events ++ more) × (drop number log ≡ more)
+since events log end number is p =
+    let more = continues-of events log None end p in (
+      more.0,
+      more.1,
+      ap (λ n. drop n log) is ∙ (ap (drop (length events)) more.1 ∙ drop-front events more.0),
+    )
+
 pub copied-some : {X : Type 0} (o : Option (Bor X)) (end : Option X) → option_copied o ≡ end
     → is_some o ≡ true → is_some end ≡ true
 copied-some (Some x) end e h = ap is_some (sym e)

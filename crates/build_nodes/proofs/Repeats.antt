@@ -37,7 +37,7 @@ use Rattle.build_meaning.specs.World.{World}
 use Rattle.build_history.specs.Repeated.{uses_of_all}
 use Rattle.build_scheduler.specs.declared.slot.End.{End}
 use Rattle.build_scheduler.specs.Kept.{IsRepeat, IsRepeated, repeats}
-use Rattle.build_scheduler.specs.Ready.{IsLeastReady}
+use Rattle.build_scheduler.specs.Ready.{IsSomeReady}
 use Rattle.build_nodes.specs.Leaving.{has_left, is_retire_of}
 use Rattle.build_nodes.specs.Marked.{marked}
 use Rattle.build_nodes.proofs.Active.{active-all, any-append}
@@ -94,11 +94,11 @@ module _ {P I A : Type 0} (w : World P I A) (table : Records) (events after : Li
   not-repeated true e h = absurd (cc)
   not-repeated false e h = h
 
--- where nothing has changed, the same request is the least one that is ready
-pub still-least : {P I A : Type 0} (w v : World P I A) (events after : List Event)
-    (least next : Option ℕ) → v ≡ w → after ≡ events → least ≡ next →
-    IsLeastReady w events least → IsLeastReady v after next
-still-least {P} {I} {A} w v events after least next e f g h =
-    subst (IsLeastReady v after) g
-    (subst (λ es. IsLeastReady v es least) (sym f)
-    (subst (λ (u : World P I A). IsLeastReady u events least) (sym e) h))
+-- where nothing has changed, the same request is ready
+pub still-ready : {P I A : Type 0} (w v : World P I A) (events after : List Event)
+    (before next : Option ℕ) → v ≡ w → after ≡ events → before ≡ next →
+    IsSomeReady w events before → IsSomeReady v after next
+still-ready {P} {I} {A} w v events after before next e f g h =
+    subst (IsSomeReady v after) g
+    (subst (λ es. IsSomeReady v es before) (sym f)
+    (subst (λ (u : World P I A). IsSomeReady u events before) (sym e) h))

@@ -26,8 +26,10 @@ number_of (Refused a) = a.number
 
 module _ {W P I A : Type 0} (seen : W → Seen P I A) (earlier : W → Option (Position P I A × ℕ))
   where
-    -- once its last answer is taken back, the walk is its request's own, and this is its next answer
-    pub record CanGoBack (w : World P I A) (events : List Event) (table : Records) (id : ℕ) (walk : W)
+    -- once its last answer is taken back, the walk is its request's own, and this is its next
+    -- answer
+    pub record CanGoBack (w : World P I A) (events : List Event) (table : Records) (id : ℕ)
+        (walk : W)
         (answer : Answer) : Type 0 where
       pub position : Position P I A
       pub asked : ℕ

@@ -6,7 +6,7 @@ ghost use Rattle.build_scheduler.specs.Drivers.{AreAlike};
 ghost use Rattle.build_scheduler.specs.Kept.{IsRepeated};
 ghost use Rattle.build_scheduler.specs.Own.{IsOut, IsOwn};
 ghost use Rattle.build_scheduler.specs.Position.{answered, ask_of};
-ghost use Rattle.build_scheduler.specs.Ready.{IsAssignedTo, IsLeastReady};
+ghost use Rattle.build_scheduler.specs.Ready.{IsAssignedTo, IsSomeReady};
 ghost use Rattle.build_nodes.specs.Leaving.{IsSpent, has_left, is_retire_of};
 ghost use Rattle.build_nodes.specs.Marked.{marked};
 ghost use Rattle.build_nodes.specs.Turns.{CanGoBack, IsAnswered, IsAsking, IsBrought, IsNext};
@@ -16,7 +16,7 @@ use crate::turn::{Answered, Asking, Brought, Discarded, Held, Next};
 use build_scheduler::{Answer, Core, Event, Reply, Walker, are_of_others, learn_records};
 use msb_values::NoMemory;
 
-/// One turn of a node: what it brings goes on, and where its request can't, the least request that
+/// One turn of a node: what it brings goes on, and where its request can't, the next request that
 /// is ready is assigned to the node. There is nothing to do next once the end is told, or the node
 /// has retired.
 pub(crate) fn turn<W: Walker>(
@@ -43,7 +43,7 @@ pub(crate) fn turn<W: Walker>(
         return None;
     }
     match brought {
-        Brought::Nothing(_) => assign_least(core, node),
+        Brought::Nothing(_) => assign_next(core, node),
         Brought::Walk(asking) => bring_back(core, node, asking, discarded),
         Brought::Refused(answered) => give_back(core, node, answered, discarded),
     }
@@ -113,7 +113,7 @@ fn bring_back<W: Walker>(
             number: _,
         } = asking;
         discarded.put(walk, answer);
-        assign_least(core, node)
+        assign_next(core, node)
     }
 }
 
@@ -161,7 +161,7 @@ fn go_on<W: Walker>(
         }
         Reply::Waits => {
             discarded.answer = Some(answer);
-            assign_least(core, node)
+            assign_next(core, node)
         }
         Reply::Over(left) => {
             discarded.answer = Some(answer);
@@ -169,15 +169,15 @@ fn go_on<W: Walker>(
             if core.end().is_some() {
                 return None;
             }
-            assign_least(core, node)
+            assign_next(core, node)
         }
         Reply::Stopped => None,
         Reply::NoMemory(walk) => take_back(core, node, Held { id, walk, answer }),
     }
 }
 
-/// Assigns the least request that is ready to the node.
-fn assign_least<W: Walker>(core: &mut Core<W>, node: u32) -> Option<Next<W>>
+/// Assigns the next request that is ready to the node.
+fn assign_next<W: Walker>(core: &mut Core<W>, node: u32) -> Option<Next<W>>
     requires running { core.old.end ≡ None }
     requires active { has_left node (marked core.old.history.events core.old.end) ≡ false }
     ensures world { W.world_of core.new.world ≡ W.world_of core.old.world }
@@ -197,7 +197,7 @@ fn assign_least<W: Walker>(core: &mut Core<W>, node: u32) -> Option<Next<W>>
     }
 }
 
-/// The least ready request whose walk goes on. Those before it are over at once, by what others of
+/// The next ready request whose walk goes on. Those before it are over at once, by what others of
 /// their keys have given. (MSBuild task: a target is run once.)
 fn next_ready<W: Walker>(core: &mut Core<W>, node: u32) -> Option<u64>
     requires running { core.old.end ≡ None }
@@ -208,23 +208,23 @@ fn next_ready<W: Walker>(core: &mut Core<W>, node: u32) -> Option<u64>
     ensures continues { IsPrefix (marked core.old.history.events core.old.end)
         (marked core.new.history.events core.new.end) }
     ensures nodes { core.new.history.nodes ≡ core.old.history.nodes }
-    ensures least { IsLeastReady (W.world_of core.new.world) core.new.history.events result }
+    ensures ready { IsSomeReady (W.world_of core.new.world) core.new.history.events result }
 {
-    let mut next = core.ready();
+    let mut next = core.next_ready();
     while let Some(id) = next {
         if !is_repeated(core, id, node) {
             return Some(id);
         }
-        next = core.ready();
+        next = core.next_ready();
     }
     None
 }
 
-/// Whether the least ready request is over at once, by what another one of its key has given. Then
+/// Whether a ready request is over at once, by what another one of its key has given. Then
 /// events have come, of which there are few: so this can't be so again and again.
 fn is_repeated<W: Walker>(core: &mut Core<W>, id: u64, node: u32) -> bool
     requires running { core.old.end ≡ None }
-    requires least { IsLeastReady (W.world_of core.old.world) core.old.history.events (Some id) }
+    requires ready { IsSomeReady (W.world_of core.old.world) core.old.history.events (Some id) }
     ensures world { W.world_of core.new.world ≡ W.world_of core.old.world }
     ensures end { core.new.end ≡ core.old.end }
     ensures nodes { core.new.history.nodes ≡ core.old.history.nodes }
@@ -324,7 +324,7 @@ fn give_back<W: Walker>(
         retire(core, node, Held { id, walk, answer })
     } else {
         discarded.put(walk, answer);
-        assign_least(core, node)
+        assign_next(core, node)
     }
 }
 

@@ -397,9 +397,51 @@ where
     }
 }
 
-/// Builds on several nodes, one for each place and each in a thread of its own, until the core's
-/// end is told. Nodes are started as there is work for them, and each takes the least request that
-/// is ready. A node that has no memory for its request gives it back and leaves; where no other one
+/// Runs each node in this thread until it has left, one after another, and joins its seat. Where
+/// the end is told, a node leaves at its first turn; else those before it have retired, and it goes
+/// on with what they gave back.
+fn run_each<R: Wait, W: Walker + Send>(
+    rt: &R,
+    board: &Board<Shared<W>>,
+    seat: &mut Seat<Shared<W>>,
+    mut all: Vec<Node<W>>,
+)
+where
+    W::Place: Send + Drop,
+    W::Origin: Send,
+    requires board { seat.old.board ≡ board.now }
+    requires home { seat.old.has_state ≡ false }
+    requires seated { All (λ n. IsSeated board.now n.seat) all.items }
+    ensures kept { (seat.new.board ≡ seat.old.board) × (seat.new.world ≡ seat.old.world)
+        × (seat.new.has_state ≡ false) }
+    ensures share { seat.new.share ≡ seat.old.share + vec_len all }
+    ensures continues { IsPrefix seat.old.seen seat.new.seen }
+    ensures left { All (λ n. has_left n.number seat.new.seen ≡ true) all.items }
+{
+    while let Some(mut node) = all.pop() {
+        work(rt, board, &mut node, Brought::Nothing(0));
+        join_one(board, seat, node);
+    }
+}
+
+/// How many of so many nodes work at once: no more than there are processors, where that can be
+/// read, since threads beyond them only take turns at these. (Building projects in parallel.)
+fn count_threads<R: Threads>(rt: &R, nodes: usize) -> usize
+    ensures { result ≤ nodes }
+{
+    if nodes == 1 {
+        return 1;
+    }
+    match thread::available_parallelism(rt) {
+        Ok(processors) => nodes.min(processors.get()),
+        Err(_) => nodes,
+    }
+}
+
+/// Builds on several nodes, one for each place, until the core's end is told. Nodes are started as
+/// there is work for them, each in a thread of its own, but no more than there are processors. Each
+/// takes the next request that is ready. A node that has no memory for its request gives it back
+/// and leaves; nodes that were not started go on once all others have left, and where no other one
 /// is left, the build ends for want of memory. A cycle of runs and a limit that is passed end the
 /// build as well. Where there is no memory to begin with, nothing has run. (Building projects in
 /// parallel.)
@@ -431,7 +473,9 @@ where
     let mut all = Vec::with_capacity(alloc, places.len())?;
     let (board, mut seat) = open_board(alloc, core)?;
     split_all(&board, &mut seat, places, &mut all);
-    let left = run_all(rt, &board, true, all);
+    let started = all.split_off(all.len() - count_threads(rt, all.len()))?;
+    let left = run_all(rt, &board, true, started);
     join_all(&board, &mut seat, left);
+    run_each(rt, &board, &mut seat, all);
     Ok(board.close(seat).into_core())
 }

@@ -41,35 +41,37 @@ over : {P I A : Type 0} (w : World P I A) (events : List Event)
     ∥ IsRootOver w events result ∥₁
 over w events result e told = subst (λ o. IsEnd w events o) (sym e) told
 
-module _ {W P I A : Type 0} (seen : W → Seen P I A) (w : World P I A) {log : History}
+module _ {W P I A : Type 0} (seen : W → Seen P I A) (w : World P I A) {history : History}
     {origins : List Origin} {slots : List (Slot W)} {making : List (Option RunId)}
     {table : TableRuns} {end : Option End} (result : RequestResult) where
-  over-replayed : Shown seen w log origins slots making table end
-      → (x : IsRootOver w log.events result)
+  over-replayed : Shown seen w history origins slots making table end
+      → (x : IsRootOver w history.events result)
       → replay_all table.finished result.runs [] ≡ Some x.journal
   over-replayed s x =
-      let same : s.state ≡ x.state = one_state w log.events s.state x.state s.history x.history in
+      let same : s.state ≡ x.state = one_state w history.events s.state x.state s.history x.history
+      in
       ap (λ finished. replay_all finished result.runs [])
       (s.finished ∙ ap (λ (t : State P I A). t.table) same)
-      ∙ root_is_replayed w log.events x.state x.history result x.journal x.ends
+      ∙ root_is_replayed w history.events x.state x.history result x.journal x.ends
 
-  pub root-replays : ∥ Shown seen w log origins slots making table end ∥₁ → Some (Root result) ≡ end
-      → IsEnd w log.events end → IsSome (replay_all table.finished result.runs [])
+  pub root-replays : ∥ Shown seen w history origins slots making table end ∥₁
+      → Some (Root result) ≡ end
+      → IsEnd w history.events end → IsSome (replay_all table.finished result.runs [])
   root-replays legal e told =
       ∥∥₁_elim legal (some-prop (replay_all table.finished result.runs [])) (λ s.
-      ∥∥₁_elim (over w log.events result e told)
+      ∥∥₁_elim (over w history.events result e told)
       (some-prop (replay_all table.finished result.runs []))
       (λ x. ap is_some (over-replayed s x)))
 
   pub root-outcome : (low : Bool) (outcome : Outcome)
-      → ∥ Shown seen w log origins slots making table end ∥₁ → Some (Root result) ≡ end
-      → IsEnd w log.events end
+      → ∥ Shown seen w history origins slots making table end ∥₁ → Some (Root result) ≡ end
+      → IsEnd w history.events end
       → IfSome (replay_all table.finished result.runs [])
       (λ journal. outcome ≡ built low result journal)
-      → ∥ IsOutcomeAt w low log.events end outcome ∥₁
+      → ∥ IsOutcomeAt w low history.events end outcome ∥₁
   root-outcome low outcome legal e told h =
-      ∥∥₁_map₂ legal (over w log.events result e told)
-      (λ s x. subst (λ o. IsOutcomeAt w low log.events o outcome) e (record {
+      ∥∥₁_map₂ legal (over w history.events result e told)
+      (λ s x. subst (λ o. IsOutcomeAt w low history.events o outcome) e (record {
         state = x.state;
         journal = x.journal;
         history = x.history;

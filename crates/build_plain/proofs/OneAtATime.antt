@@ -137,8 +137,8 @@ module _ {P I A : Type 0} (w : World P I A) where
   free-of events (Some _) none = tt
 
 module _ {W P I A : Type 0} (seen : W → Seen P I A) (w : World P I A) where
-  pub legal-of : {log : _} {origins : _} {slots : _} {making : _} {table : _} {end : _}
-      → ∥ Shown seen w log origins slots making table end ∥₁ → ∥ IsLegal w log.events ∥₁
+  pub legal-of : {history : _} {origins : _} {slots : _} {making : _} {table : _} {end : _}
+      → ∥ Shown seen w history origins slots making table end ∥₁ → ∥ IsLegal w history.events ∥₁
   legal-of shown = ∥∥₁_map shown (λ x. (x.state, x.history))
 
   going-of : (s : State P I A) (events : List Event) (id : ℕ) (q : RequestState P I A)
@@ -152,16 +152,16 @@ module _ {W P I A : Type 0} (seen : W → Seen P I A) (w : World P I A) where
   going-of s events id q _ h e f g = absurd g
 
   -- until an end is told some request is ready or with a node
-  pub never_idle : {log : _} {origins : _} {slots : _} {making : _} {table : _} {end : _}
-      → ∥ Shown seen w log origins slots making table end ∥₁ → end ≡ None
-      → NoneAssigned w log.events → IsLeastReady w log.events None → ⊥
-  never_idle {log} shown e none unready = ∥∥₁_elim shown (λ a b. absurd a) (λ x.
+  pub never_idle : {history : _} {origins : _} {slots : _} {making : _} {table : _} {end : _}
+      → ∥ Shown seen w history origins slots making table end ∥₁ → end ≡ None
+      → NoneAssigned w history.events → IsLeastReady w history.events None → ⊥
+  never_idle {history} shown e none unready = ∥∥₁_elim shown (λ a b. absurd a) (λ x.
       let root = first_there x.state.requests
-      (root-stays w log.events (start w) x.state (omega arith) x.history) in
-      let going = never_stuck w log.events x.state x.history root.0 root.1
+      (root-stays w history.events (start w) x.state (omega arith) x.history) in
+      let going = never_stuck w history.events x.state x.history root.0 root.1
       (subst (λ o. ShowsEnd x.state o) e x.ends root.0 root.1) in
       elim
-      (going-of x.state log.events going.0 going.1 going.1.status x.history going.2 refl
+      (going-of x.state history.events going.0 going.1 going.1.status x.history going.2 refl
       going.3) [
         | inl r ↦ unready going.0 ∣ r ∣₁
         | inr a ↦ none going.0 ∣ a ∣₁

@@ -128,11 +128,12 @@ module _ {P I A : Type 0} where
   put-moves s t event z m f = record {
     grows = let e : length t.requests ≡ length (put s.requests (whose event) z) = ap length m
         in let g = put-length s.requests (whose event) z in omega arith;
-    after = λ n b e h. elim (at-put s.requests (whose event) z n b (sym (ap (λ rs. at rs n) m) ∙ e)) [
-      | inl x ↦ inl
-          (x.0, λ l. f l (subst (λ (q : RequestState P I A). HasNode q.status) (sym x.1) h))
-      | inr y ↦ inr y
-    ];
+    after = λ n b e h.
+        elim (at-put s.requests (whose event) z n b (sym (ap (λ rs. at rs n) m) ∙ e)) [
+          | inl x ↦ inl
+              (x.0, λ l. f l (subst (λ (q : RequestState P I A). HasNode q.status) (sym x.1) h))
+          | inr y ↦ inr y
+        ];
   }
 
   -- and then a request that has no node is put somewhere

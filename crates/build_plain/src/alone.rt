@@ -17,7 +17,7 @@ ghost use Rattle.build_scheduler.specs.Drivers.{Continues, IsLegal};
 ghost use Rattle.build_scheduler.specs.Ends.{IsStop};
 ghost use Rattle.build_scheduler.specs.Kept.{IsRepeated};
 ghost use Rattle.build_scheduler.specs.Own.{IsOut, IsOwn};
-ghost use Rattle.build_scheduler.specs.Position.{answered, ask_of};
+ghost use Rattle.build_scheduler.specs.Position.{ask_of};
 ghost use Rattle.build_scheduler.specs.Ready.{IsLeastReady};
 
 use build_scheduler::{Answer, Ask, Core, End, Reply, Walker, go_on};

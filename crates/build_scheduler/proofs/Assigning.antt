@@ -61,29 +61,29 @@ use Rattle.build_scheduler.proofs.ReadyRequests.{listed-of}
 use Rattle.build_scheduler.proofs.OneRequest.{owed-at, map-put, result-put, shown-put, one-more}
 use Rattle.build_scheduler.proofs.SlotsStay.{map-alike}
 
-module _ {W P I A : Type 0} (seen : W → Seen P I A) (w : World P I A) (log after : History)
+module _ {W P I A : Type 0} (seen : W → Seen P I A) (w : World P I A) (history after : History)
     {origins : List Origin} {slots : List (Slot W)} {making : List (Option RunId)}
     {table : TableRuns} {end : Option End} (id node : ℕ) (walk : W) (answer : Answer) where
   -- the request of a slot that is ready
-  abbrev ReadyThere : Shown seen w log origins slots making table end → Type 0
+  abbrev ReadyThere : Shown seen w history origins slots making table end → Type 0
   ReadyThere x = (q : RequestState P I A)
-      × ShowsReady w x.state (length log.events) (seen walk) answer q
+      × ShowsReady w x.state (length history.events) (seen walk) answer q
       × (at x.state.requests id ≡ Some q)
 
-  ready-there : (x : Shown seen w log origins slots making table end)
+  ready-there : (x : Shown seen w history origins slots making table end)
       → at slots id ≡ Some (Ready walk answer) → ReadyThere x
-  ready-there x e = Paired-some (ShowsSlot w x.state (length log.events) seen) slots
+  ready-there x e = Paired-some (ShowsSlot w x.state (length history.events) seen) slots
       x.state.requests id (Ready walk answer) x.each e
 
-  assigned-step : (x : Shown seen w log origins slots making table end) (r : ReadyThere x)
+  assigned-step : (x : Shown seen w history origins slots making table end) (r : ReadyThere x)
       → step w x.state (Assign id node) ≡ Some
       (with_request x.state id (placed r.0.origin r.1.position (assigned node)))
   assigned-step x r = ap (λ o. and_then o (step_of w x.state (Assign id node)))
       (r.2 ∙ ap Some r.1.is)
 
   pub assigned-shown : {outs : List (Slot W)} → at slots id ≡ Some (Ready walk answer)
-      → outs ≡ put slots id (Assigned node) → after.events ≡ log.events ++ Assign id node ∷ []
-      → log.room ≡ after.room + 1 → Shown seen w log origins slots making table end →
+      → outs ≡ put slots id (Assigned node) → after.events ≡ history.events ++ Assign id node ∷ []
+      → history.room ≡ after.room + 1 → Shown seen w history origins slots making table end →
       Shown seen w after origins outs making table end
   assigned-shown e out ev room x =
       let r = ready-there x e in
@@ -108,8 +108,8 @@ module _ {W P I A : Type 0} (seen : W → Seen P I A) (w : World P I A) (log aft
       (record { place = r.1.position.place; is = refl }))
 
   pub assigned-out : at slots id ≡ Some (Ready walk answer)
-      → after.events ≡ log.events ++ Assign id node ∷ []
-      → Shown seen w log origins slots making table end →
+      → after.events ≡ history.events ++ Assign id node ∷ []
+      → Shown seen w history origins slots making table end →
       IsOut w after.events table.finished id (seen walk) answer
   assigned-out e ev x =
       let r = ready-there x e in
@@ -122,25 +122,26 @@ module _ {W P I A : Type 0} (seen : W → Seen P I A) (w : World P I A) (log aft
           origin = r.0.origin;
           node = node;
           history = subst (λ es. IsHistory w es t) (sym ev)
-              (more w log.events (Assign id node) x.state t x.history (assigned-step x r));
+              (more w history.events (Assign id node) x.state t x.history (assigned-step x r));
           there = at-put_same x.state.requests id r.0 z r.2;
         };
         world = g.world;
         learnt = subst (ArePartOf (seen walk).learnt) (sym x.finished) g.learnt;
         goes = ap (λ records. answered w records (seen walk).position answer) x.finished ∙ g.goes;
         turn = g.turn;
-        few = let k : length after.events ≡ suc (length log.events) = one-more log.events
+        few = let k : length after.events ≡ suc (length history.events) = one-more history.events
             after.events (Assign id node) ev in let f : (seen walk).asked
-            ≤ length log.events = g.few in omega arith;
+            ≤ length history.events = g.few in omega arith;
       }
 
-module _ {W P I A : Type 0} (seen : W → Seen P I A) (w : World P I A) {log : History}
+module _ {W P I A : Type 0} (seen : W → Seen P I A) (w : World P I A) {history : History}
     {origins : List Origin} {slots : List (Slot W)} {making : List (Option RunId)}
     {table : TableRuns} {end : Option End} where
   -- a ready request is listed, and there is room for its event
   pub listed-there : {numbers : Numbered} {waiting : List Numbered} (id : ℕ)
-      → ∥ Shown seen w log origins slots making table end ∥₁ → ∥ Indexed slots numbers waiting ∥₁
-      → ∥ IsReady w log.events id ∥₁ →
+      → ∥ Shown seen w history origins slots making table end ∥₁
+      → ∥ Indexed slots numbers waiting ∥₁
+      → ∥ IsReady w history.events id ∥₁ →
       (among id numbers.numbers ≡ true) × (is_ready (at slots id) ≡ true)
   listed-there {numbers} id shown indexed r =
       let a : is_ready (at slots id) ≡ true = ∥∥₁_elim shown
@@ -149,13 +150,13 @@ module _ {W P I A : Type 0} (seen : W → Seen P I A) (w : World P I A) {log : H
       (λ q. listed-of seen w id x q)) in
       (∥∥₁_elim indexed (truth-prop (among id numbers.numbers) true) (λ y. y.listed id ∙ a), a)
 
-  pub room-there : (id : ℕ) → ∥ Shown seen w log origins slots making table end ∥₁
-      → ∥ IsReady w log.events id ∥₁ → 0 < log.room
+  pub room-there : (id : ℕ) → ∥ Shown seen w history origins slots making table end ∥₁
+      → ∥ IsReady w history.events id ∥₁ → 0 < history.room
   room-there id shown r = ∥∥₁_elim shown (λ p q. le_prop p q)
       (λ x. ∥∥₁_elim r (λ p q. le_prop p q) (λ q.
       let e : at x.state.requests id ≡ Some q.request = subst
       (λ (s : State P I A). at s.requests id ≡ Some q.request)
-      (one_state w log.events q.state x.state q.history x.history) q.there in
+      (one_state w history.events q.state x.state q.history x.history) q.there in
       let a = owed-at x.state.requests id q.request e in
       let b : owed q.request.status ≡ suc (owed_in q.place) = ap owed q.is in
-      let c : owed_by x.state.requests ≤ log.room = x.room in omega arith))
+      let c : owed_by x.state.requests ≤ history.room = x.room in omega arith))

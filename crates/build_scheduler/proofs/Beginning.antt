@@ -57,15 +57,15 @@ none_part : (table : Records) → ArePartOf [] table
 none_part table = record { in_order = tt; shared = λ run made h. absurd (cc) }
 
 module _ {W P I A : Type 0} (seen : W → Seen P I A) (walk : W) (key : RequestKey)
-    {told : World P I A} {log : History} {origins : List Origin} {slots : List (Slot W)}
+    {told : World P I A} {history : History} {origins : List Origin} {slots : List (Slot W)}
     {making : List (Option RunId)} {table : TableRuns} where
   -- the core shows the start of the world
   pub shown-start : told ≡ (seen walk).world → key ≡ (seen walk).world.root
       → (seen walk).position ≡ begins (seen walk).world key [] → (seen walk).asked ≡ 0
-      → (seen walk).learnt ≡ [] → log.events ≡ [] → log.room ≡ 2 →
+      → (seen walk).learnt ≡ [] → history.events ≡ [] → history.room ≡ 2 →
       origins ≡ record { key = key; parent = None; depth = 0 } ∷ [] → slots ≡ Ready walk First ∷ []
       → making ≡ None ∷ [] → table.finished ≡ [] → table.begun ≡ []
-      → Shown seen told log origins slots making table None
+      → Shown seen told history origins slots making table None
   shown-start e k p a t ev room os ss ms fin beg =
       let key_is : key ≡ told.root = k ∙ ap (λ (v : World P I A). v.root) (sym e) in
       let there : (seen walk).position ≡ begins told told.root [] = p
@@ -77,7 +77,8 @@ module _ {W P I A : Type 0} (seen : W → Seen P I A) (walk : W) (key : RequestK
             key_is;
         rooted = subst AreRooted (sym os) (refl, tt);
         each = subst
-            (λ (xs : List (Slot W)). Paired (ShowsSlot told (start told) (length log.events) seen)
+            (λ (xs : List (Slot W)).
+            Paired (ShowsSlot told (start told) (length history.events) seen)
             xs (start told).requests) (sym ss) (
               record {
                 position = begins told told.root [];

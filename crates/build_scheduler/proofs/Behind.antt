@@ -206,20 +206,20 @@ module _ {W P I A : Type 0} (seen : W → Seen P I A) (w : World P I A) where
       last-step events event y.0 s t y.2
       (subst (λ (x : State P I A). after_all w x (events ++ event ∷ []) ≡ Some t) same z.2)
 
-  module _ {log after : History} {origins asked : List Origin} {slots outs : List (Slot W)}
+  module _ {history after : History} {origins asked : List Origin} {slots outs : List (Slot W)}
       {making bodies : List (Option RunId)} {table runs : TableRuns} {end told_end : Option End}
       (event : Event)
-      (x : Shown seen w log origins slots making table end)
+      (x : Shown seen w history origins slots making table end)
       (y : Shown seen w after asked outs bodies runs told_end)
-      (e : after.events ≡ log.events ++ event ∷ []) where
+      (e : after.events ≡ history.events ++ event ∷ []) where
     is_step : step w x.state event ≡ Some y.state
-    is_step = last-step log.events event (start w) x.state y.state x.history
+    is_step = last-step history.events event (start w) x.state y.state x.history
         (subst (λ es. IsHistory w es y.state) e y.history)
 
-    after-event : (kept : AreKept slots outs (whose event)) → AreBehind seen w log.events slots
+    after-event : (kept : AreKept slots outs (whose event)) → AreBehind seen w history.events slots
         → AreBehind seen w after.events outs
     after-event kept behind id walk answer out s q b none h at_q in_b =
-        let unretired : retires (log.events ++ event ∷ []) ≡ 0 = ap retires (sym e) ∙ none in
+        let unretired : retires (history.events ++ event ∷ []) ≡ 0 = ap retires (sym e) ∙ none in
         let same_state : s ≡ y.state = one_state w after.events s y.state h y.history in
         let here : at y.state.requests id ≡ Some q = subst
         (λ (z : State P I A). at z.requests id ≡ Some q) same_state at_q in
@@ -229,66 +229,67 @@ module _ {W P I A : Type 0} (seen : W → Seen P I A) (w : World P I A) where
         (subst (λ (z : Slot W). ShowsSlot w y.state (length after.events) seen z q)
         (same_some (at outs id) v.0 (Ready walk answer) v.2 out) v.1) in
         let m = step-moved w x.state y.state event is_step in
-        let ls = lawful w log.events x.state x.history in
+        let ls = lawful w history.events x.state x.history in
         let lt = step-lawful w x.state event y.state ls is_step in
-        let told = history-told w log.events x.state x.history in
-        let grown : uses_in w after.events ≡ added (uses_in w log.events) m.mine = ap (uses_in w) e
-        ∙ event-uses w log.events event x.state y.state x.history is_step in
+        let told = history-told w history.events x.state x.history in
+        let grown : uses_in w after.events ≡ added (uses_in w history.events) m.mine = ap
+        (uses_in w) e
+        ∙ event-uses w history.events event x.state y.state x.history is_step in
         elim (same_or_not id (whose event)) [
           | inl d ↦ absurd
-              (none-now log.events event unretired
+              (none-now history.events event unretired
               (m.unready
               (subst (λ (z : RequestState P I A). IsReady z.status)
               (same_some (at y.state.requests id) q m.mine here
               (ap (at y.state.requests) d ∙ m.there)) r)))
           | inr d ↦
-              by_other id walk answer q b (none-before log.events (event ∷ []) unretired)
+              by_other id walk answer q b (none-before history.events (event ∷ []) unretired)
               (kept id walk answer) d out here in_b r behind (m.others id q d here)
               ∙ sym (ap (uses_of b.run) grown
-              ∙ kept-other x.state y.state event (uses_in w log.events) ls lt m told id q b d
+              ∙ kept-other x.state y.state event (uses_in w history.events) ls lt m told id q b d
               here in_b)
         ]
       where
         by_other : (id : ℕ) (walk : W) (answer : Answer) (q : RequestState P I A) (b : ToolsUsed I)
-            → retires log.events ≡ 0
+            → retires history.events ≡ 0
             → ((slot : Slot W) → (id ≡ whose event → ⊥) → at outs id ≡ Some (Ready walk answer)
             → at slots id ≡ Some slot → walk_in slot ≡ Some walk) →
             (id ≡ whose event → ⊥) → at outs id ≡ Some (Ready walk answer)
             → at y.state.requests id ≡ Some q → body_at q.status ≡ Some b → IsReady q.status
-            → AreBehind seen w log.events slots → Other x.state id q →
-            tools_in (seen walk).position.place ≡ uses_of b.run (uses_in w log.events)
+            → AreBehind seen w history.events slots → Other x.state id q →
+            tools_in (seen walk).position.place ≡ uses_of b.run (uses_in w history.events)
         by_other id walk answer q b none k d out here in_b r behind (inl same) =
-            let v = paired-other (ShowsSlot w x.state (length log.events) seen) slots
+            let v = paired-other (ShowsSlot w x.state (length history.events) seen) slots
             x.state.requests id q x.each same in
-            let z = ready-slot x.state (length log.events) v.0 q v.1 r walk (k v.0 d out v.2) in
+            let z = ready-slot x.state (length history.events) v.0 q v.1 r walk (k v.0 d out v.2) in
             behind id walk z.0 (v.2 ∙ ap Some z.1) x.state q b none x.history same in_b
         by_other id walk answer q b none k d out here in_b r behind (inr (inl in_none)) = none_some
             (body_at q.status) b in_b in_none
         by_other id walk answer q b none k d out here in_b r behind (inr (inr z)) =
-            let v = paired-other (ShowsSlot w x.state (length log.events) seen) slots
+            let v = paired-other (ShowsSlot w x.state (length history.events) seen) slots
             x.state.requests id z.caller x.each z.was in
             let before : ToolsUsed I = record { run = z.before.run; tools = z.before.so_far.tools }
             in
-            let was : uses_of z.before.run (uses_in w log.events) ≡ z.before.so_far.tools =
-            (history-told w log.events x.state x.history).caught id z.caller before z.was
+            let was : uses_of z.before.run (uses_in w history.events) ≡ z.before.so_far.tools =
+            (history-told w history.events x.state x.history).caught id z.caller before z.was
             (ap body_at z.calls_so) (λ a. subst IsReady z.calls_so a) in
             let run_is : z.before.run ≡ b.run = sym z.same_run
             ∙ ap (λ (u : ToolsUsed I). u.run)
             (some-is (record { run = z.now.run; tools = z.now.so_far.tools }) b
             (sym (ap body_at z.is) ∙ in_b)) in
-            calling-slot x.state (length log.events) v.0 z.caller z.keys z.ids z.before z.go v.1
+            calling-slot x.state (length history.events) v.0 z.caller z.keys z.ids z.before z.go v.1
             z.calls_so walk (k v.0 d out v.2)
-            ∙ (sym was ∙ ap (λ run. uses_of run (uses_in w log.events)) run_is)
+            ∙ (sym was ∙ ap (λ run. uses_of run (uses_in w history.events)) run_is)
 
   -- an event keeps it
-  pub behind-event : {log after : History} {origins asked : List Origin}
+  pub behind-event : {history after : History} {origins asked : List Origin}
       {slots outs : List (Slot W)}
       {making bodies : List (Option RunId)} {table runs : TableRuns} {end told_end : Option End}
       (event : Event) →
-      ∥ Shown seen w log origins slots making table end ∥₁
+      ∥ Shown seen w history origins slots making table end ∥₁
       → ∥ Shown seen w after asked outs bodies runs told_end ∥₁
-      → after.events ≡ log.events ++ event ∷ [] → AreKept slots outs (whose event) →
-      ∥ AreBehind seen w log.events slots ∥₁ → ∥ AreBehind seen w after.events outs ∥₁
+      → after.events ≡ history.events ++ event ∷ [] → AreKept slots outs (whose event) →
+      ∥ AreBehind seen w history.events slots ∥₁ → ∥ AreBehind seen w after.events outs ∥₁
   behind-event event old new e kept behind = ∥∥₁_elim old ∥∥₁_prop
       (λ x. ∥∥₁_elim new ∥∥₁_prop (λ y. ∥∥₁_map behind (λ b. after-event event x y e kept b)))
 

@@ -179,9 +179,9 @@ part-of-part a b = record
     { in_order = a.in_order; shared = λ run made e. b.shared run made (a.shared run made e) }
 
 -- how many instances there are with some calls
-pub how-many : {W P I A : Type 0} (seen : W → Seen P I A) (w : World P I A) {log : History}
+pub how-many : {W P I A : Type 0} (seen : W → Seen P I A) (w : World P I A) {history : History}
     {origins : List Origin} {slots : List (Slot W)} {making : List (Option RunId)}
-    {table : TableRuns} {end : Option End} (x : Shown seen w log origins slots making table end)
+    {table : TableRuns} {end : Option End} (x : Shown seen w history origins slots making table end)
     (instances : List InstanceKey) → AreCounted instances (map instance_asked origins)
     → (calls : List RequestKey)
     → length
@@ -197,11 +197,11 @@ how-many seen w {origins = origins} x instances k calls =
     (map instance_asked origins ++ map (λ (call : RequestKey). call.instance) calls)
     (counted-all instances (map instance_asked origins) calls k)
 
-module _ {W P I A : Type 0} (seen : W → Seen P I A) (w : World P I A) (log after : History)
+module _ {W P I A : Type 0} (seen : W → Seen P I A) (w : World P I A) (history after : History)
     {origins : List Origin} {slots : List (Slot W)} {making : List (Option RunId)}
     {table : TableRuns} {end : Option End}
     (id : ℕ) (walk : W) (calls : List RequestKey)
-    (x : Shown seen w log origins slots making table end)
+    (x : Shown seen w history origins slots making table end)
     (c : Calls (seen walk).position.place calls)
     (h : There slots x.state id (seen walk).position) where
   abbrev p : Position P I A
@@ -313,12 +313,12 @@ module _ {W P I A : Type 0} (seen : W → Seen P I A) (w : World P I A) (log aft
       → at x.state.requests n ≡ Some b → b.status ≡ calling keys ids y go →
       map (result_at after_state.requests) ids ≡ map (result_at x.state.requests) ids
   told-others n b keys ids y go a st = map-alike-in _ _ ids (λ m i.
-      let k = kindred w log.events x.state x.history in
+      let k = kindred w history.events x.state x.history in
       let d = k.family.down n (kin_of b) ids (kins-at x.state.requests n b a) (ap ids_in st) m i in
       let q = at-kins x.state.requests m d.0 d.1 in told-after m q.0 q.1)
 
   new-ready : (count : ℕ) (key : RequestKey) (slot : Slot W)
-      → IsOwn w log.events table.finished id (seen walk) → IsChildSlot seen (seen walk) slot key
+      → IsOwn w history.events table.finished id (seen walk) → IsChildSlot seen (seen walk) slot key
       → ShowsSlot w after_state count seen slot (new_request w (Some id) path p.journal key)
   new-ready count key (Ready child First) o k = record {
     position = begins w key p.journal;
@@ -341,7 +341,7 @@ module _ {W P I A : Type 0} (seen : W → Seen P I A) (w : World P I A) (log aft
   new-ready count key Done o k = absurd k
 
   new-slots : (count : ℕ) (children : List (Slot W)) (keys : List RequestKey)
-      → IsOwn w log.events table.finished id (seen walk)
+      → IsOwn w history.events table.finished id (seen walk)
       → Paired (IsChildSlot seen (seen walk)) children keys →
       Paired (ShowsSlot w after_state count seen) children
       (map (new_request w (Some id) path p.journal) keys)
@@ -374,13 +374,15 @@ module _ {W P I A : Type 0} (seen : W → Seen P I A) (w : World P I A) (log aft
   pub called-shown : (instances : List InstanceKey) (open_calls : Open W) (children : List (Slot W))
       {origins_now : List Origin} {outs : List (Slot W)} {bodies : List (Option RunId)} (depth : ℕ)
       →
-      IsOwn w log.events table.finished id (seen walk) → end ≡ None → HasDepth (at origins id) depth
+      IsOwn w history.events table.finished id (seen walk) → end ≡ None
+      → HasDepth (at origins id) depth
       → suc depth < deepest → AreCounted instances (map instance_asked origins)
       → length (with_all instances calls) ≤ most_instances →
-      HasSpare w log (2 + 2 * length calls) → Paired (IsChildSlot seen (seen walk)) children calls
+      HasSpare w history (2 + 2 * length calls)
+      → Paired (IsChildSlot seen (seen walk)) children calls
       → open_calls.walk ≡ walk → open_calls.first ≡ length slots
       → open_calls.«open» ≡ length calls → length open_calls.results.items ≡ length calls →
-      after.events ≡ log.events ++ Request id calls ∷ [] → log.room ≡ after.room + 1
+      after.events ≡ history.events ++ Request id calls ∷ [] → history.room ≡ after.room + 1
       → origins_now ≡ origins ++ map (child_origin id (suc depth)) calls
       → outs ≡ put slots id (Calling open_calls) ++ children →
       bodies ≡ making ++ map no_run calls → Shown seen w after origins_now outs bodies table end
@@ -391,15 +393,15 @@ module _ {W P I A : Type 0} (seen : W → Seen P I A) (w : World P I A) (log aft
       let st : step w x.state (Request id calls)
       ≡ Some after_state = request-step
       (within-limits instances (subst (λ n. suc n < deepest) depth_of_it deep) k few) in
-      let count_of : length after.events ≡ suc (length log.events) = one-more log.events
+      let count_of : length after.events ≡ suc (length history.events) = one-more history.events
       after.events (Request id calls) ev in
       let same_length : length slots ≡ length x.state.requests = Paired-length
-      (ShowsSlot w x.state (length log.events) seen) slots x.state.requests x.each in
+      (ShowsSlot w x.state (length history.events) seen) slots x.state.requests x.each in
       let keys_length : length (c.key ∷ c.keys) ≡ length calls = ap length keys_are in
       record {
         state = after_state;
         history = subst (λ es. IsHistory w es after_state) (sym ev)
-            (more w log.events (Request id calls) x.state after_state x.history st);
+            (more w history.events (Request id calls) x.state after_state x.history st);
         asked = os
             ∙ (ap (λ l. l ++ map (child_origin id (suc depth)) calls)
             (x.asked
@@ -422,12 +424,12 @@ module _ {W P I A : Type 0} (seen : W → Seen P I A) (w : World P I A) (log aft
             (Paired-append (ShowsSlot w after_state (length after.events) seen)
             (put slots id (Calling open_calls)) (put x.state.requests id calling_request)
             children new_ones
-            (paired-puts (ShowsSlot w x.state (length log.events) seen)
+            (paired-puts (ShowsSlot w x.state (length history.events) seen)
             (ShowsSlot w after_state (length after.events) seen) slots x.state.requests id
             (Calling open_calls) calling_request
-            (λ n a b di t s. slot-later w seen x.state after_state (length log.events)
+            (λ n a b di t s. slot-later w seen x.state after_state (length history.events)
             (length after.events)
-            (later-same seen w x.state after_state (length log.events) (length after.events)
+            (later-same seen w x.state after_state (length history.events) (length after.events)
             refl (omega (arith, count_of))) a b (record {
               begun = λ r body go by st g. g;
               told = λ keys ids y go st. told-others n b keys ids y go t st;
@@ -455,7 +457,7 @@ module _ {W P I A : Type 0} (seen : W → Seen P I A) (w : World P I A) (log aft
                         c.is;
                     asked = own.asked;
                     few = let m : (seen walk).asked
-                        ≤ length log.events = own.few in omega (arith, count_of);
+                        ≤ length history.events = own.few in omega (arith, count_of);
                   });
               so_far = subst
                   (λ n.
@@ -495,9 +497,9 @@ module _ {W P I A : Type 0} (seen : W → Seen P I A) (w : World P I A) (log aft
             let b : owed was_request.status ≡ 2 = ap owed was_status in
             let e = owed-append (put x.state.requests id calling_request) new_ones in
             let f = owed-new w (Some id) path p.journal (c.key ∷ c.keys) in
-            let s : owed_by x.state.requests + (2 + 2 * length calls) ≤ log.room =
-            subst (λ (t : State P I A). owed_by t.requests + (2 + 2 * length calls) ≤ log.room)
-            (one_state w log.events spare.state x.state spare.history x.history) spare.spare in
+            let s : owed_by x.state.requests + (2 + 2 * length calls) ≤ history.room =
+            subst (λ (t : State P I A). owed_by t.requests + (2 + 2 * length calls) ≤ history.room)
+            (one_state w history.events spare.state x.state spare.history x.history) spare.spare in
             omega arith;
         ends = subst (ShowsEnd after_state) (sym none)
             (ends-alike x.state after_state (told-root) (subst (ShowsEnd x.state) none x.ends));

@@ -111,17 +111,18 @@ not_begun table (b ∷ begun) run f r = go (same_run b.run run) refl (found tabl
         (sym (ap (λ t. this_or t (request_of (unfinished table begun) run) b.by) e) ∙ h)
     go false e (Some made) g h ih = ih h
 
-module _ {W P I A : Type 0} (seen : W → Seen P I A) (w : World P I A) (log after : History)
+module _ {W P I A : Type 0} (seen : W → Seen P I A) (w : World P I A) (history after : History)
     {origins : List Origin} {slots : List (Slot W)} {making : List (Option RunId)}
     {table : TableRuns} {end : Option End}
     (id : ℕ) (walk : W) (run : RunId) where
   -- the request that wants the run
-  pub record Claims (x : Shown seen w log origins slots making table end) : Type 0 where
+  pub record Claims (x : Shown seen w history origins slots making table end) : Type 0 where
     pub there : There slots x.state id (seen walk).position
     pub wanted : Wants (seen walk).position.place run
 
-  pub claims-of : (x : Shown seen w log origins slots making table end)
-      → IsOwn w log.events table.finished id (seen walk) → ask_of (seen walk).position ≡ Want run
+  pub claims-of : (x : Shown seen w history origins slots making table end)
+      → IsOwn w history.events table.finished id (seen walk)
+      → ask_of (seen walk).position ≡ Want run
       → Claims x
   claims-of x o a = record {
     there = there-of seen w x id (seen walk).position o.stands;
@@ -130,7 +131,7 @@ module _ {W P I A : Type 0} (seen : W → Seen P I A) (w : World P I A) (log aft
   }
 
   -- what a claim comes to
-  pub claim-step : (x : Shown seen w log origins slots making table end) (c : Claims x)
+  pub claim-step : (x : Shown seen w history origins slots making table end) (c : Claims x)
       (kind : ClaimKind) → step w x.state (Claim id run kind)
       ≡ claimed w x.state id c.there.node
       (placed c.there.origin (seen walk).position (assigned c.there.node))
@@ -156,7 +157,7 @@ module _ {W P I A : Type 0} (seen : W → Seen P I A) (w : World P I A) (log aft
       run c.wanted.body c.wanted.go kind)) (same_run-refl run)
 
   -- the other requests stand as before where a run is begun
-  others-alike : (x : Shown seen w log origins slots making table end) (z : RequestState P I A)
+  others-alike : (x : Shown seen w history origins slots making table end) (z : RequestState P I A)
       (q : RequestState P I A) → at x.state.requests id ≡ Some q
       → result_in z.status ≡ result_in q.status → found table.finished run ≡ None
       → request_of table.begun run ≡ None →
@@ -198,15 +199,15 @@ module _ {W P I A : Type 0} (seen : W → Seen P I A) (w : World P I A) (log aft
           ∙ g)
 
   -- the state in which the run is begun
-  abbrev begun_stopped : (x : Shown seen w log origins slots making table end) → Claims x
+  abbrev begun_stopped : (x : Shown seen w history origins slots making table end) → Claims x
       → Stopped I A
   begun_stopped x c = run_on w.tools run c.wanted.body (seen walk).position.journal nothing_yet
 
-  abbrev begun_position : (x : Shown seen w log origins slots making table end) → Claims x
+  abbrev begun_position : (x : Shown seen w history origins slots making table end) → Claims x
       → Position P I A
   begun_position x c = stopped_in (seen walk).position.runs run c.wanted.go (begun_stopped x c)
 
-  abbrev begun_state : (x : Shown seen w log origins slots making table end) → Claims x
+  abbrev begun_state : (x : Shown seen w history origins slots making table end) → Claims x
       → State P I A
   begun_state x c = record {
     requests = put x.state.requests id
@@ -216,25 +217,26 @@ module _ {W P I A : Type 0} (seen : W → Seen P I A) (w : World P I A) (log aft
     tools_used = x.state.tools_used;
   }
 
-  begun-step : (x : Shown seen w log origins slots making table end) (c : Claims x)
+  begun-step : (x : Shown seen w history origins slots making table end) (c : Claims x)
       → found table.finished run ≡ None → request_of table.begun run ≡ None
       → step w x.state (Claim id run Go) ≡ Some (begun_state x c)
   begun-step x c f u = claim-step x c Go ∙ ap (λ t. unless t (begun_state x c))
       (not_begun x.state.table x.state.begun run (ap (λ t. found t run) (sym x.finished) ∙ f)
       (ap (λ t. request_of t run) (sym x.begun) ∙ u))
 
-  pub wanting_status : (x : Shown seen w log origins slots making table end) (c : Claims x)
+  pub wanting_status : (x : Shown seen w history origins slots making table end) (c : Claims x)
       → assigned c.there.node (seen walk).position.place
       ≡ assigned c.there.node (walking (wants c.wanted.site run c.wanted.body c.wanted.go))
   wanting_status x c = ap (assigned c.there.node) c.wanted.is
 
   pub begun-shown : {bodies : List (Option RunId)} {runs : TableRuns}
-      → IsOwn w log.events table.finished id (seen walk) → ask_of (seen walk).position ≡ Want run
+      → IsOwn w history.events table.finished id (seen walk)
+      → ask_of (seen walk).position ≡ Want run
       → found table.finished run ≡ None → request_of table.begun run ≡ None →
-      after.events ≡ log.events ++ Claim id run Go ∷ [] → log.room + 2 ≡ after.room + 1
+      after.events ≡ history.events ++ Claim id run Go ∷ [] → history.room + 2 ≡ after.room + 1
       → bodies ≡ put making id (Some run) → runs.finished ≡ table.finished
       → runs.begun ≡ record { run = run; by = id } ∷ table.begun →
-      Shown seen w log origins slots making table end
+      Shown seen w history origins slots making table end
       → Shown seen w after origins slots bodies runs end
   begun-shown {bodies} {runs} o a f u ev room bo fin beg x =
       let c = claims-of x o a in
@@ -261,11 +263,12 @@ module _ {W P I A : Type 0} (seen : W → Seen P I A) (w : World P I A) (log aft
       (λ n b d e. others-alike x z q c.there.at_state refl f u b)
       (record { place = (begun_position x c).place; is = refl }))
 
-  pub begun-out : IsOwn w log.events table.finished id (seen walk)
+  pub begun-out : IsOwn w history.events table.finished id (seen walk)
       → ask_of (seen walk).position ≡ Want run → found table.finished run ≡ None
       → request_of table.begun run ≡ None →
-      after.events ≡ log.events ++ Claim id run Go ∷ [] → {runs : Records} → runs ≡ table.finished
-      → Shown seen w log origins slots making table end
+      after.events ≡ history.events ++ Claim id run Go ∷ [] → {runs : Records}
+      → runs ≡ table.finished
+      → Shown seen w history origins slots making table end
       → IsOut w after.events runs id (seen walk) Goes
   begun-out o a f u ev {runs} fin x =
       let c = claims-of x o a in
@@ -280,7 +283,7 @@ module _ {W P I A : Type 0} (seen : W → Seen P I A) (w : World P I A) (log aft
           origin = c.there.origin;
           node = c.there.node;
           history = subst (λ es. IsHistory w es (begun_state x c)) (sym ev)
-              (more w log.events (Claim id run Go) x.state (begun_state x c) x.history
+              (more w history.events (Claim id run Go) x.state (begun_state x c) x.history
               (begun-step x c f u));
           there = at-put_same x.state.requests id q z c.there.at_state;
         };
@@ -290,38 +293,41 @@ module _ {W P I A : Type 0} (seen : W → Seen P I A) (w : World P I A) (log aft
             (λ place. answered_at w runs (seen walk).position.journal (seen walk).position.runs
             place Goes) c.wanted.is;
         turn = o.asked;
-        few = let k : length after.events ≡ suc (length log.events) = one-more log.events
+        few = let k : length after.events ≡ suc (length history.events) = one-more history.events
             after.events (Claim id run Go) ev in let m : (seen walk).asked
-            ≤ length log.events = o.few in omega arith;
+            ≤ length history.events = o.few in omega arith;
       }
 
   -- the journal with the record replayed
-  record Taken (x : Shown seen w log origins slots making table end) : Type 0 where
+  record Taken (x : Shown seen w history origins slots making table end) : Type 0 where
     pub made : Record
     pub next : Journal
     pub is_found : found x.state.table run ≡ Some made
     pub replayed : replay x.state.table run (seen walk).position.journal ≡ Some next
 
-  taken-of : (x : Shown seen w log origins slots making table end)
+  taken-of : (x : Shown seen w history origins slots making table end)
       → IsSome (found table.finished run) → Taken x
   taken-of x f = go (found x.state.table run) refl (subst (λ t. IsSome (found t run)) x.finished f)
     where
       go : (o : Option Record) → found x.state.table run ≡ o → IsSome o → Taken x
       go None e h = absurd (cc)
-      go (Some made) e h = let v = lawful w log.events x.state x.history in let y = replay-total
+      go (Some made) e h = let v = lawful w history.events x.state x.history in let y = replay-total
           x.state.table v.ordered run (seen walk).position.journal (made, e) in
           record { made = made; next = y.0; is_found = e; replayed = y.1 }
 
-  abbrev taken_position : (x : Shown seen w log origins slots making table end) → Claims x → Taken x
+  abbrev taken_position : (x : Shown seen w history origins slots making table end) → Claims x
+      → Taken x
       → Position P I A
   taken_position x c y = after_run (seen walk).position.runs run c.wanted.go y.made y.next
 
-  abbrev taken_state : (x : Shown seen w log origins slots making table end) → Claims x → Taken x
+  abbrev taken_state : (x : Shown seen w history origins slots making table end) → Claims x
+      → Taken x
       → State P I A
   taken_state x c y = with_request x.state id
       (placed c.there.origin (taken_position x c y) (assigned c.there.node))
 
-  taken-step : (x : Shown seen w log origins slots making table end) (c : Claims x) (y : Taken x)
+  taken-step : (x : Shown seen w history origins slots making table end) (c : Claims x)
+      (y : Taken x)
       → step w x.state (Claim id run Use) ≡ Some (taken_state x c y)
   taken-step x c y = claim-step x c Use
       ∙ (ap
@@ -342,10 +348,10 @@ module _ {W P I A : Type 0} (seen : W → Seen P I A) (w : World P I A) (log aft
       (placed c.there.origin (after_run (seen walk).position.runs run c.wanted.go y.made next)
       (assigned c.there.node))))) y.replayed)
 
-  pub taken-shown : IsOwn w log.events table.finished id (seen walk)
+  pub taken-shown : IsOwn w history.events table.finished id (seen walk)
       → ask_of (seen walk).position ≡ Want run → IsSome (found table.finished run)
-      → after.events ≡ log.events ++ Claim id run Use ∷ [] →
-      log.room + 1 ≡ after.room + 1 → Shown seen w log origins slots making table end
+      → after.events ≡ history.events ++ Claim id run Use ∷ [] →
+      history.room + 1 ≡ after.room + 1 → Shown seen w history origins slots making table end
       → Shown seen w after origins slots making table end
   taken-shown o a f ev room x =
       let c = claims-of x o a in
@@ -371,10 +377,10 @@ module _ {W P I A : Type 0} (seen : W → Seen P I A) (w : World P I A) (log aft
       })
       (record { place = (taken_position x c y).place; is = refl }))
 
-  pub taken-out : IsOwn w log.events table.finished id (seen walk)
+  pub taken-out : IsOwn w history.events table.finished id (seen walk)
       → ask_of (seen walk).position ≡ Want run → IsSome (found table.finished run)
-      → after.events ≡ log.events ++ Claim id run Use ∷ [] →
-      Shown seen w log origins slots making table end
+      → after.events ≡ history.events ++ Claim id run Use ∷ [] →
+      Shown seen w history origins slots making table end
       → IsOut w after.events table.finished id (seen walk) Uses
   taken-out o a f ev x =
       let c = claims-of x o a in
@@ -391,7 +397,7 @@ module _ {W P I A : Type 0} (seen : W → Seen P I A) (w : World P I A) (log aft
           origin = c.there.origin;
           node = c.there.node;
           history = subst (λ es. IsHistory w es (taken_state x c y)) (sym ev)
-              (more w log.events (Claim id run Use) x.state (taken_state x c y) x.history
+              (more w history.events (Claim id run Use) x.state (taken_state x c y) x.history
               (taken-step x c y));
           there = at-put_same x.state.requests id q z c.there.at_state;
         };
@@ -407,20 +413,20 @@ module _ {W P I A : Type 0} (seen : W → Seen P I A) (w : World P I A) (log aft
             ∙ ap (λ o. and_then o (λ next. Some (after_run p.runs run c.wanted.go y.made next)))
             y.replayed));
         turn = o.asked;
-        few = let k : length after.events ≡ suc (length log.events) = one-more log.events
+        few = let k : length after.events ≡ suc (length history.events) = one-more history.events
             after.events (Claim id run Use) ev in let m : (seen walk).asked
-            ≤ length log.events = o.few in omega arith;
+            ≤ length history.events = o.few in omega arith;
       }
 
 module _ {W P I A : Type 0} (seen : W → Seen P I A) (w : World P I A) where
   -- there may be more room
-  pub shown-room : {log after : History} {origins : List Origin} {slots : List (Slot W)}
+  pub shown-room : {history after : History} {origins : List Origin} {slots : List (Slot W)}
       {making : List (Option RunId)} {table runs : TableRuns} {end : Option End}
-      → after.events ≡ log.events → log.room ≤ after.room →
+      → after.events ≡ history.events → history.room ≤ after.room →
       runs.finished ≡ table.finished → runs.begun ≡ table.begun
-      → Shown seen w log origins slots making table end
+      → Shown seen w history origins slots making table end
       → Shown seen w after origins slots making runs end
-  shown-room {log} {after} {origins} {slots} ev room fin beg x = record {
+  shown-room {history} {after} {origins} {slots} ev room fin beg x = record {
     state = x.state;
     history = subst (λ es. IsHistory w es x.state) (sym ev) x.history;
     asked = x.asked;
@@ -430,15 +436,15 @@ module _ {W P I A : Type 0} (seen : W → Seen P I A) (w : World P I A) where
     bodies = x.bodies;
     finished = fin ∙ x.finished;
     begun = beg ∙ x.begun;
-    room = let r : owed_by x.state.requests ≤ log.room = x.room in omega arith;
+    room = let r : owed_by x.state.requests ≤ history.room = x.room in omega arith;
     ends = x.ends;
   }
 
   -- a request with a node has a place in the list of bodies
-  pub placed-there : {log : History} {origins : List Origin} {slots : List (Slot W)}
+  pub placed-there : {history : History} {origins : List Origin} {slots : List (Slot W)}
       {making : List (Option RunId)} {table : TableRuns} {end : Option End}
-      (x : Shown seen w log origins slots making table end) (id : ℕ) (p : Position P I A) →
-      IsWith w log.events id p → id < length making
+      (x : Shown seen w history origins slots making table end) (id : ℕ) (p : Position P I A) →
+      IsWith w history.events id p → id < length making
   placed-there {making = making} x id p i =
       let t = there-of seen w x id p i in
       let l : id < length x.state.requests = at-less x.state.requests id _ t.at_state in
@@ -446,10 +452,10 @@ module _ {W P I A : Type 0} (seen : W → Seen P I A) (w : World P I A) where
       ∙ length-map x.state.requests making_of in omega arith
 
   -- so has that of a walk which is its own
-  pub making-there : {log : History} {origins : List Origin} {slots : List (Slot W)}
+  pub making-there : {history : History} {origins : List Origin} {slots : List (Slot W)}
       {making : List (Option RunId)} {table : TableRuns} {records : Records} {end : Option End}
-      (id : ℕ) (walk : W) → ∥ Shown seen w log origins slots making table end ∥₁ →
-      ∥ IsOwn w log.events records id (seen walk) ∥₁ → id < length making
+      (id : ℕ) (walk : W) → ∥ Shown seen w history origins slots making table end ∥₁ →
+      ∥ IsOwn w history.events records id (seen walk) ∥₁ → id < length making
   making-there id walk shown own = ∥∥₁_elim shown (λ p q. le_prop p q)
       (λ x. ∥∥₁_elim own (λ p q. le_prop p q)
       (λ o. placed-there x id (seen walk).position o.stands))

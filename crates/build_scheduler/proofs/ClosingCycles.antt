@@ -280,19 +280,19 @@ module _ {f g : Kins} (id : ℕ) (old new : Kin) (run : RunId) (p : PutAt f g id
     ]
   ]
 
-module _ {W P I A : Type 0} (seen : W → Seen P I A) (w : World P I A) {log : History}
+module _ {W P I A : Type 0} (seen : W → Seen P I A) (w : World P I A) {history : History}
     {origins : List Origin} {slots : List (Slot W)} {making : List (Option RunId)}
     {table : TableRuns} {end : Option End} {ready_ones : Numbered} {waiting_ones : List Numbered}
-    (x : Shown seen w log origins slots making table end)
+    (x : Shown seen w history origins slots making table end)
     (y : Indexed slots ready_ones waiting_ones) where
   abbrev kin : Kins
   kin = kins_of x.state.requests
 
   family : Family kin
-  family = (kindred w log.events x.state x.history).family
+  family = (kindred w history.events x.state x.history).family
 
   law : Lawful x.state
-  law = lawful w log.events x.state x.history
+  law = lawful w history.events x.state x.history
 
   caller-kin : (c n : ℕ) → caller_at origins c ≡ Some n
       → (k : Kin) × (kin c ≡ Some k) × (k.parent ≡ Some n)
@@ -327,7 +327,8 @@ module _ {W P I A : Type 0} (seen : W → Seen P I A) (w : World P I A) {log : H
       go (Some (Ready walk answer)) h t = absurd (cc)
       go (Some (Assigned node)) h t = absurd (cc)
       go (Some (Waiting walk by)) h t =
-          let q = Paired-some (ShowsSlot w x.state (length log.events) seen) slots x.state.requests
+          let q = Paired-some (ShowsSlot w x.state (length history.events) seen) slots
+          x.state.requests
           c (Waiting walk by) x.each h in
           let at_c = kins-at x.state.requests c q.0 q.2 in
           let o = waits-open x.state law c (kin_of q.0) q.1.run at_c (ap waits_of q.1.is) in
@@ -344,7 +345,7 @@ module _ {W P I A : Type 0} (seen : W → Seen P I A) (w : World P I A) {log : H
       go (Some Done) h t = absurd (cc)
 
   slot-waits : (slot : Slot W) (q : RequestState P I A) (run : RunId) (body : Body I A)
-      (go : Record → Journal → Walk P I A) → ShowsSlot w x.state (length log.events) seen slot q
+      (go : Record → Journal → Walk P I A) → ShowsSlot w x.state (length history.events) seen slot q
       → q.status ≡ waits run body go →
       (walk : W) × (by : ℕ) × (slot ≡ Waiting walk by)
       × (request_of (unfinished x.state.table x.state.begun) run ≡ Some by)
@@ -365,7 +366,8 @@ module _ {W P I A : Type 0} (seen : W → Seen P I A) (w : World P I A) {log : H
   kin-waits c m k run h e b =
       let q = at-kins x.state.requests c k h in
       let st = waits-so q.0.status run (ap (λ (k : Kin). k.waits) q.2 ∙ e) in
-      let s = paired-other (ShowsSlot w x.state (length log.events) seen) slots x.state.requests c
+      let s = paired-other (ShowsSlot w x.state (length history.events) seen) slots x.state.requests
+      c
       q.0 x.each q.1 in
       let z = slot-waits s.0 q.0 run st.0 st.1 s.1 st.2 in
       let o = waits-open x.state law c k run h e in
@@ -377,7 +379,7 @@ module _ {W P I A : Type 0} (seen : W → Seen P I A) (w : World P I A) {log : H
   one-run : (m : ℕ) (k : Kin) (r t : RunId) → kin m ≡ Some k → k.inside ≡ Some r → Open x.state t
       → beginner x.state.begun t ≡ Some m → t ≡ r
   one-run m k r t h e o b =
-      let z = (kindred w log.events x.state x.history).free.working t o in
+      let z = (kindred w history.events x.state x.history).free.working t o in
       let i = inside-open x.state law z.0 z.1 t z.2 z.3 in
       let n : z.0 ≡ m = same_some (beginner x.state.begun t) z.0 m i.1 b in
       let same : z.1 ≡ k = same_some (kin m) z.1 k (subst (λ a. kin a ≡ Some z.1) n z.2) h in
@@ -470,7 +472,7 @@ module _ {W P I A : Type 0} (seen : W → Seen P I A) (w : World P I A) {log : H
 
   -- the slot of a request that calls, and where its calls are
   slot-calls : (slot : Slot W) (q : RequestState P I A) (ids : List ℕ) →
-      ShowsSlot w x.state (length log.events) seen slot q → ids_in q.status ≡ Some ids →
+      ShowsSlot w x.state (length history.events) seen slot q → ids_in q.status ≡ Some ids →
       (calls : Calls W) × (slot ≡ Calling calls) × ((n : ℕ) → In n ids →
       (i : ℕ) × (n ≡ calls.first + i) × (i < length calls.results.items))
   slot-calls (Ready walk answer) q ids h e =
@@ -499,7 +501,8 @@ module _ {W P I A : Type 0} (seen : W → Seen P I A) (w : World P I A) {log : H
   pub calls-within : (by : ℕ) (calls : Calls W) → at slots by ≡ Some (Calling calls) →
       calls.first + length calls.results.items ≤ length slots
   calls-within by calls e =
-      let z = Paired-some (ShowsSlot w x.state (length log.events) seen) slots x.state.requests by
+      let z = Paired-some (ShowsSlot w x.state (length history.events) seen) slots x.state.requests
+      by
       (Calling calls) x.each e in
       let keys : List RequestKey = z.1.key ∷ z.1.keys in
       let ids : List ℕ = numbered_from calls.first keys in
@@ -518,7 +521,8 @@ module _ {W P I A : Type 0} (seen : W → Seen P I A) (w : World P I A) {log : H
       let l : calls.first + length z.1.keys < length x.state.requests =
       at-less x.state.requests (calls.first + length z.1.keys) c.0 c.1 in
       let a : length slots ≡ length x.state.requests =
-      Paired-length (ShowsSlot w x.state (length log.events) seen) slots x.state.requests x.each in
+      Paired-length (ShowsSlot w x.state (length history.events) seen) slots x.state.requests x.each
+      in
       omega arith
 
   -- a request that is free holds no run
@@ -535,7 +539,8 @@ module _ {W P I A : Type 0} (seen : W → Seen P I A) (w : World P I A) {log : H
   free-holds n k t h free (inr e) =
       let q = at-kins x.state.requests n k h in
       let st = waits-so q.0.status t (ap (λ (k : Kin). k.waits) q.2 ∙ e) in
-      let s = paired-other (ShowsSlot w x.state (length log.events) seen) slots x.state.requests n
+      let s = paired-other (ShowsSlot w x.state (length history.events) seen) slots x.state.requests
+      n
       q.0 x.each q.1 in
       let z = slot-waits s.0 q.0 t st.0 st.1 s.1 st.2 in
       free.awake (subst IsWaiting (sym (s.2 ∙ ap Some z.2)) tt)
@@ -547,7 +552,7 @@ module _ {W P I A : Type 0} (seen : W → Seen P I A) (w : World P I A) {log : H
       let i = inside-open x.state law d.caller d.kin r d.at_caller d.in_run in
       let same : d.caller ≡ by = same_some (beginner x.state.begun r) d.caller by i.1 b in
       let q = at-kins x.state.requests d.caller d.kin d.at_caller in
-      let s = paired-other (ShowsSlot w x.state (length log.events) seen) slots x.state.requests
+      let s = paired-other (ShowsSlot w x.state (length history.events) seen) slots x.state.requests
       d.caller q.0 x.each q.1 in
       let z = slot-calls s.0 q.0 d.ids s.1 (ap (λ (k : Kin). k.calls) q.2 ∙ d.calls_so) in
       let frees : AreFree slots making z.0.first (length z.0.results.items) =
@@ -767,7 +772,7 @@ module _ {W P I A : Type 0} (seen : W → Seen P I A) (w : World P I A) {log : H
             let p : Path (NeedOf (kins_of then.requests)) run run = path-mono (kin-needs then)
             (chain-path then run run between c) in
             elim (cut id (kin_of q) (kin_of new) run changed refl family p) [
-              | inl o ↦ (kindred w log.events x.state x.history).free.acyclic run o
+              | inl o ↦ (kindred w history.events x.state x.history).free.acyclic run o
               | inr o ↦
                   let called : caller_at origins id
                   ≡ Some o.1.caller = kin-caller id o.1.caller (kin_of q) changed.was o.1.called

@@ -64,7 +64,7 @@ use Rattle.build_meaning.specs.State.{
   State,
   with_request,
 }
-use Rattle.build_meaning.specs.Step.{only_if, in_body, results_of, resume_caller, step_of, step}
+use Rattle.build_meaning.specs.Step.{only_if, results_of, resume_caller, step_of, step}
 use Rattle.build_meaning.specs.Step as steps
 use Rattle.build_meaning.specs.History.{IsHistory}
 use Rattle.build_meaning.specs.Progress.{IsPossible}
@@ -173,11 +173,11 @@ pub none-root : (origins : List Origin) (o : Origin) → AreRooted origins → a
 none-root [] o h e = absurd (cc)
 none-root (x ∷ origins) o h e = let q : x ≡ o = cc in ap (λ (y : Origin). y.parent) (sym q) ∙ h.0
 
-module _ {W P I A : Type 0} (seen : W → Seen P I A) (w : World P I A) (log after : History)
+module _ {W P I A : Type 0} (seen : W → Seen P I A) (w : World P I A) (history after : History)
     {origins : List Origin} {slots : List (Slot W)} {making : List (Option RunId)}
     {table : TableRuns} {end : Option End}
     (id : ℕ) (told : RequestResult) (p : Position P I A)
-    (x : Shown seen w log origins slots making table end) (e : Gives p.place p.runs told)
+    (x : Shown seen w history origins slots making table end) (e : Gives p.place p.runs told)
     (h : There slots x.state id p) where
   abbrev was_request : RequestState P I A
   was_request = placed h.origin p (assigned h.node)
@@ -228,7 +228,7 @@ module _ {W P I A : Type 0} (seen : W → Seen P I A) (w : World P I A) (log aft
       → at x.state.requests n ≡ Some b → b.status ≡ calling keys ids y go →
       (h.origin.parent ≡ Some n → ⊥) → (m : ℕ) → In m ids → m ≡ id → ⊥
   not-called n b keys ids y go a st d m i same =
-      let k = kindred w log.events x.state x.history in
+      let k = kindred w history.events x.state x.history in
       let c = k.family.down n (kin_of b) ids (kins-at x.state.requests n b a) (ap ids_in st) m i in
       let u : kins_of x.state.requests id ≡ Some c.0 = subst
       (λ j. kins_of x.state.requests j ≡ Some c.0) same c.1 in
@@ -247,7 +247,7 @@ module _ {W P I A : Type 0} (seen : W → Seen P I A) (w : World P I A) (log aft
 
   -- the root is over
   pub root-over : {outs : List (Slot W)} {end_now : Option End} → h.origin.parent ≡ None
-      → after.events ≡ log.events ++ Done id ∷ [] → log.room ≡ after.room + 1
+      → after.events ≡ history.events ++ Done id ∷ [] → history.room ≡ after.room + 1
       → outs ≡ put slots id Over → end_now ≡ Some (Root told) →
       Shown seen w after origins outs making table end_now
   root-over {outs} {end_now} none ev room os en =
@@ -284,16 +284,16 @@ module _ {W P I A : Type 0} (seen : W → Seen P I A) (w : World P I A) (log aft
     pub place : ℕ
     pub at_state : at x.state.requests caller ≡ Some request
     pub at_slots : at slots caller ≡ Some (Calling calls)
-    pub shows : ShowsCalling w x.state (length log.events) (seen calls.walk) calls.first
+    pub shows : ShowsCalling w x.state (length history.events) (seen calls.walk) calls.first
         calls.«open» calls.results.items request
     pub id_is : id ≡ calls.first + place
     pub below : place < length (shows.key ∷ shows.keys)
 
   calling-slot : (slot : Slot W) (q : RequestState P I A) (keys : List RequestKey) (ids : List ℕ)
       (y : Within P I A) (go : List RequestResult → Journal → Body I A)
-      → q.status ≡ calling keys ids y go → ShowsSlot w x.state (length log.events) seen slot q →
+      → q.status ≡ calling keys ids y go → ShowsSlot w x.state (length history.events) seen slot q →
       (calls : Calls W) × (slot ≡ Calling calls)
-      × ShowsCalling w x.state (length log.events) (seen calls.walk) calls.first calls.«open»
+      × ShowsCalling w x.state (length history.events) (seen calls.walk) calls.first calls.«open»
       calls.results.items q
   calling-slot (Ready walk answer) q keys ids y go st s = absurd
       (let a : calling keys ids y go ≡ ready s.position.place = sym st
@@ -313,12 +313,12 @@ module _ {W P I A : Type 0} (seen : W → Seen P I A) (w : World P I A) (log aft
 
   pub caller-of : (caller : ℕ) → h.origin.parent ≡ Some caller → Caller caller
   caller-of caller par =
-      let k = kindred w log.events x.state x.history in
+      let k = kindred w history.events x.state x.history in
       let u = k.family.up id (kin_of was_request)
       (kins-at x.state.requests id was_request h.at_state) refl caller par in
       let q = at-kins x.state.requests caller u.0 u.2 in
       let c = calling-so q.0.status u.1 (ap (λ (a : Kin). a.calls) q.2 ∙ u.3) in
-      let s = paired-other (ShowsSlot w x.state (length log.events) seen) slots x.state.requests
+      let s = paired-other (ShowsSlot w x.state (length history.events) seen) slots x.state.requests
       caller q.0 x.each q.1 in
       let y = calling-slot s.0 q.0 c.0 u.1 c.1 c.2 c.3 s.1 in
       let n = in-numbered y.0.first (y.2.key ∷ y.2.keys) id
@@ -395,7 +395,7 @@ module _ {W P I A : Type 0} (seen : W → Seen P I A) (w : World P I A) (log aft
     -- the core shows the state in which the caller is told
     pub told-shown : {outs : List (Slot W)} (z : RequestState P I A) (slot : Slot W)
         → step w x.state (Done id) ≡ Some (told_state z) → end ≡ None
-        → after.events ≡ log.events ++ Done id ∷ [] → log.room ≡ after.room + 1 →
+        → after.events ≡ history.events ++ Done id ∷ [] → history.room ≡ after.room + 1 →
         outs ≡ put (put slots id Over) caller slot → z.origin ≡ c.request.origin
         → making_of z ≡ making_of c.request → result_in z.status ≡ None
         → owed z.status ≤ owed c.request.status →
@@ -404,7 +404,7 @@ module _ {W P I A : Type 0} (seen : W → Seen P I A) (w : World P I A) (log aft
     told-shown {outs} z slot st none ev room os o mk r ow s = record {
       state = told_state z;
       history = subst (λ es. IsHistory w es (told_state z)) (sym ev)
-          (more w log.events (Done id) x.state (told_state z) x.history st);
+          (more w history.events (Done id) x.state (told_state z) x.history st);
       asked = x.asked
           ∙ (sym (map-put origin_of x.state.requests id was_request over_request h.at_state refl)
           ∙ sym
@@ -414,13 +414,14 @@ module _ {W P I A : Type 0} (seen : W → Seen P I A) (w : World P I A) (log aft
       each = subst
           (λ (xs : List (Slot W)). Paired (ShowsSlot w (told_state z) (length after.events) seen) xs
           (told_state z).requests) (sym os)
-          (paired-two (ShowsSlot w x.state (length log.events) seen)
+          (paired-two (ShowsSlot w x.state (length history.events) seen)
           (ShowsSlot w (told_state z) (length after.events) seen) slots x.state.requests id
           caller Over slot over_request z apart
-          (λ n a b d k t s. slot-later w seen x.state (told_state z) (length log.events)
+          (λ n a b d k t s. slot-later w seen x.state (told_state z) (length history.events)
           (length after.events)
-          (later-same seen w x.state (told_state z) (length log.events) (length after.events) refl
-          (let m = one-more log.events after.events (Done id) ev in omega arith)) a b (record {
+          (later-same seen w x.state (told_state z) (length history.events) (length after.events)
+          refl
+          (let m = one-more history.events after.events (Done id) ev in omega arith)) a b (record {
             begun = λ r body go by st g. g;
             told = λ keys js y go st. map-alike-in _ _ js
                 (λ m i. result-told z r m ∙ result-other m
@@ -439,7 +440,7 @@ module _ {W P I A : Type 0} (seen : W → Seen P I A) (w : World P I A) (log aft
           let a = owed-put x.state.requests id was_request over_request h.at_state in
           let b = owed-put (put x.state.requests id over_request) caller c.request z caller_there in
           let d : owed was_request.status ≡ 1 = ap owed was_status in
-          let f : owed_by x.state.requests ≤ log.room = x.room in omega arith;
+          let f : owed_by x.state.requests ≤ history.room = x.room in omega arith;
       ends = subst (ShowsEnd (told_state z)) (sym none)
           (ends-alike x.state (told_state z) (result-told z r 0
           ∙ result-other 0 (λ q. root-called (sym q))) (subst (ShowsEnd x.state) none x.ends));
@@ -527,7 +528,7 @@ module _ {W P I A : Type 0} (seen : W → Seen P I A) (w : World P I A) (log aft
 
     over-possible : IsPossible w x.state (Done id)
     over-possible = elim
-        (goes w log.events x.state x.history id h.node was_request (walking (gives e.reply))
+        (goes w history.events x.state x.history id h.node was_request (walking (gives e.reply))
         h.at_state was_status) [ inl g ↦ g | inr g ↦ absurd g ]
 
     replayed : AreSoFar (map (result_at (put x.state.requests id over_request)) ids) all_results 0
@@ -555,7 +556,8 @@ module _ {W P I A : Type 0} (seen : W → Seen P I A) (w : World P I A) (log aft
     -- the caller is told
     pub caller-told : {outs : List (Slot W)} (calls : Calls W) (slot : Slot W)
         → at slots caller ≡ Some (Calling calls) → IsTold calls (id - calls.first) told slot
-        → end ≡ None → after.events ≡ log.events ++ Done id ∷ [] → log.room ≡ after.room + 1 →
+        → end ≡ None → after.events ≡ history.events ++ Done id ∷ [] → history.room ≡ after.room + 1
+        →
         outs ≡ put (put slots id Over) caller slot
         → Shown seen w after origins outs making table end
     caller-told calls slot a tells none ev room os = go slot
@@ -565,8 +567,8 @@ module _ {W P I A : Type 0} (seen : W → Seen P I A) (w : World P I A) (log aft
         same_calls = let q : Some (Calling calls) ≡ Some (Calling c.calls) = sym a
             ∙ c.at_slots in cc
 
-        few_more : length after.events ≡ suc (length log.events)
-        few_more = one-more log.events after.events (Done id) ev
+        few_more : length after.events ≡ suc (length history.events)
+        few_more = one-more history.events after.events (Done id) ev
 
         go : (slot : Slot W) → IsTold c.calls (id - c.calls.first) told slot
             → {outs : List (Slot W)} → outs ≡ put (put slots id Over) caller slot
@@ -607,7 +609,7 @@ module _ {W P I A : Type 0} (seen : W → Seen P I A) (w : World P I A) (log aft
                     position = c.shows.stands.position;
                     asked = c.shows.stands.asked;
                     few = let u : (seen c.calls.walk).asked
-                        ≤ length log.events = c.shows.stands.few in omega (arith, few_more);
+                        ≤ length history.events = c.shows.stands.few in omega (arith, few_more);
                   });
               so_far = subst
                   (λ f.
@@ -672,7 +674,7 @@ module _ {W P I A : Type 0} (seen : W → Seen P I A) (w : World P I A) (log aft
                 turn = subst (IsInTurn (seen walk).asked) (sym t.2)
                     (subst (λ v. 0 < (seen v).asked) (sym t.0) c.shows.stands.asked);
                 few = let u : (seen c.calls.walk).asked
-                    ≤ length log.events = c.shows.stands.few in let v : (seen walk).asked
+                    ≤ length history.events = c.shows.stands.few in let v : (seen walk).asked
                     ≡ (seen c.calls.walk).asked = ap (λ b. (seen b).asked) t.0 in omega
                     (arith, few_more);
               };
@@ -691,19 +693,21 @@ zero-prop : (n : ℕ) → IsProp (n ≡ 0)
 zero-prop n = hlevel props
 
 -- of a core that shows a state
-module _ {W P I A : Type 0} (seen : W → Seen P I A) (w : World P I A) {log : History}
+module _ {W P I A : Type 0} (seen : W → Seen P I A) (w : World P I A) {history : History}
     {origins : List Origin} {slots : List (Slot W)} {making : List (Option RunId)}
     {table : TableRuns} {end : Option End} (id : ℕ) (told : RequestResult) where
   -- the request that is over, its reply and its caller
-  pub record Over_now (x : Shown seen w log origins slots making table end) (parent : Option ℕ) :
+  pub record Over_now (x : Shown seen w history origins slots making table end) (parent : Option ℕ)
+      :
       Type 0 where
     pub position : Position P I A
     pub gives_so : Gives position.place position.runs told
     pub there : There slots x.state id position
     pub parent_is : there.origin.parent ≡ parent
 
-  pub over-now : (x : Shown seen w log origins slots making table end) (parent : Option ℕ)
-      → Asks w log.events id (IsOver told) → HasParent (at origins id) parent → Over_now x parent
+  pub over-now : (x : Shown seen w history origins slots making table end) (parent : Option ℕ)
+      → Asks w history.events id (IsOver told) → HasParent (at origins id) parent
+      → Over_now x parent
   over-now x parent a p =
       let g = gives-of a.position.runs a.position.place told a.asks in
       let h = there-of seen w x id a.position a.stands in
@@ -712,18 +716,19 @@ module _ {W P I A : Type 0} (seen : W → Seen P I A) (w : World P I A) {log : H
         gives_so = g;
         there = h;
         parent_is = subst
-            (λ o. HasParent o parent) (over-origin seen w log log id told a.position x g h) p;
+            (λ o. HasParent o parent) (over-origin seen w history history id told a.position x g h)
+            p;
       }
 
-  module _ (shown : ∥ Shown seen w log origins slots making table end ∥₁)
-      (asked : ∥ Asks w log.events id (IsOver told) ∥₁) where
-    pub over-room : 0 < log.room
+  module _ (shown : ∥ Shown seen w history origins slots making table end ∥₁)
+      (asked : ∥ Asks w history.events id (IsOver told) ∥₁) where
+    pub over-room : 0 < history.room
     over-room = ∥∥₁_elim shown (λ p q. le_prop p q) (λ x. ∥∥₁_elim asked (λ p q. le_prop p q) (λ a.
         let g = gives-of a.position.runs a.position.place told a.asks in
         let h = there-of seen w x id a.position a.stands in
         let b = owed-at x.state.requests id _ h.at_state in
         let c : owed_in a.position.place ≡ 1 = ap owed_in g.is in
-        let d : owed_by x.state.requests ≤ log.room = x.room in omega arith))
+        let d : owed_by x.state.requests ≤ history.room = x.room in omega arith))
 
     pub over-slot : id < length slots
     over-slot = ∥∥₁_elim shown (λ p q. le_prop p q)
@@ -735,12 +740,12 @@ module _ {W P I A : Type 0} (seen : W → Seen P I A) (w : World P I A) {log : H
         let g = gives-of a.position.runs a.position.place told a.asks in
         let h = there-of seen w x id a.position a.stands in
         at-less origins id (origin_from h.origin)
-        (over-origin seen w log log id told a.position x g h)))
+        (over-origin seen w history history id told a.position x g h)))
 
     pub root-zero : HasParent (at origins id) None → id ≡ 0
     root-zero p = ∥∥₁_elim shown (zero-prop id) (λ x. ∥∥₁_elim asked (zero-prop id) (λ a.
         let y = over-now x None a p in root-none origins id (origin_from y.there.origin) x.rooted
-        (over-origin seen w log log id told y.position x y.gives_so y.there) y.parent_is))
+        (over-origin seen w history history id told y.position x y.gives_so y.there) y.parent_is))
 
     pub called-other-than_root : (caller : ℕ) → HasParent (at origins id) (Some caller) → id ≡ 0 → ⊥
     called-other-than_root caller p z = ∥∥₁_elim shown (λ q. absurd q)
@@ -748,7 +753,7 @@ module _ {W P I A : Type 0} (seen : W → Seen P I A) (w : World P I A) {log : H
         let y = over-now x (Some caller) a p in
         let n = none-root origins (origin_from y.there.origin) x.rooted
         (subst (λ n. at origins n ≡ Some (origin_from y.there.origin)) z
-        (over-origin seen w log log id told y.position x y.gives_so y.there)) in
+        (over-origin seen w history history id told y.position x y.gives_so y.there)) in
         let c : Some caller ≡ None = sym y.parent_is ∙ n in cc))
 
     -- the caller's slot, in which the call is open
@@ -757,10 +762,12 @@ module _ {W P I A : Type 0} (seen : W → Seen P I A) (w : World P I A) {log : H
     caller-open caller {outs} p os = ∥∥₁_elim shown (has_open-prop id (at outs caller))
         (λ x. ∥∥₁_elim asked (has_open-prop id (at outs caller)) (λ a.
         let y = over-now x (Some caller) a p in
-        let c = caller-of seen w log log id told y.position x y.gives_so y.there caller y.parent_is
+        let c = caller-of seen w history history id told y.position x y.gives_so y.there caller
+        y.parent_is
         in
-        let d = apart seen w log log id told y.position x y.gives_so y.there caller y.parent_is c in
-        let t = told-so-far seen w log log id told y.position x y.gives_so y.there caller
+        let d = apart seen w history history id told y.position x y.gives_so y.there caller
+        y.parent_is c in
+        let t = told-so-far seen w history history id told y.position x y.gives_so y.there caller
         y.parent_is c in
         let i : id ≡ c.calls.first + c.place = c.id_is in
         let n : c.calls.«open» ≡ suc t.0 = t.1 in
@@ -784,7 +791,8 @@ module _ {W P I A : Type 0} (seen : W → Seen P I A) (w : World P I A) {log : H
         (λ x. ∥∥₁_elim asked (unlisted-prop caller ready)
         (λ a. ∥∥₁_elim indexed (unlisted-prop caller ready) (λ y.
         let o = over-now x (Some caller) a p in
-        let c = caller-of seen w log log id told o.position x o.gives_so o.there caller o.parent_is
+        let c = caller-of seen w history history id told o.position x o.gives_so o.there caller
+        o.parent_is
         in
         let n : unready slots ≤ ready.room = y.room in
         let u : 0 < unready slots = unready-there 0 slots caller (Calling c.calls) c.at_slots refl
@@ -793,28 +801,30 @@ module _ {W P I A : Type 0} (seen : W → Seen P I A) (w : World P I A) {log : H
 
     -- the core shows the state after the event
     pub ended-shown : {after : History} {outs : List (Slot W)} {told_end : Option End}
-        → HasParent (at origins id) None → after.events ≡ log.events ++ Done id ∷ []
-        → log.room ≡ after.room + 1 → outs ≡ put slots id Over → told_end ≡ Some (Root told) →
+        → HasParent (at origins id) None → after.events ≡ history.events ++ Done id ∷ []
+        → history.room ≡ after.room + 1 → outs ≡ put slots id Over → told_end ≡ Some (Root told) →
         ∥ Shown seen w after origins outs making table told_end ∥₁
     ended-shown {after} p ev room os en = ∥∥₁_map₂ shown asked
-        (λ x a. let y = over-now x None a p in root-over seen w log after id told y.position x
+        (λ x a. let y = over-now x None a p in root-over seen w history after id told y.position x
         y.gives_so y.there y.parent_is ev room os en)
 
     pub resumed-shown : {after : History} {outs after_slots : List (Slot W)} {ready next : Numbered}
         (caller : ℕ) → HasParent (at origins id) (Some caller) → end ≡ None
-        → after.events ≡ log.events ++ Done id ∷ [] → log.room ≡ after.room + 1 →
+        → after.events ≡ history.events ++ Done id ∷ [] → history.room ≡ after.room + 1 →
         outs ≡ put slots id Over → IsResumed outs after_slots ready next caller id told
         → ∥ Shown seen w after origins after_slots making table end ∥₁
     resumed-shown {after} {outs} caller p none ev room os r = ∥∥₁_map₂ shown asked (λ x a.
         let y = over-now x (Some caller) a p in
-        let c = caller-of seen w log after id told y.position x y.gives_so y.there caller
+        let c = caller-of seen w history after id told y.position x y.gives_so y.there caller
         y.parent_is in
-        let d = apart seen w log after id told y.position x y.gives_so y.there caller y.parent_is c
+        let d = apart seen w history after id told y.position x y.gives_so y.there caller
+        y.parent_is c
         in
         let was : at slots caller ≡ Some (Calling r.calls) = sym
         (at-put_else slots id Over caller (λ q. d (sym q)))
         ∙ (ap (λ (xs : List (Slot W)). at xs caller) (sym os) ∙ r.was) in
-        caller-told seen w log after id told y.position x y.gives_so y.there caller y.parent_is c
+        caller-told seen w history after id told y.position x y.gives_so y.there caller y.parent_is
+        c
         r.calls r.slot was r.tells none ev room
         (r.is ∙ ap (λ (xs : List (Slot W)). put xs caller r.slot) os))
 

@@ -73,10 +73,10 @@ absent-beyond {W} slots ready waiting first e indexed n l = ∥∥₁_elim index
     beyond (y ∷ xs) zero l = absurd (omega arith)
     beyond (y ∷ xs) (suc j) l = beyond xs j (omega arith)
 
-pub spare-room : {P I A : Type 0} (w : World P I A) (log : History) (more : ℕ)
-    → ∥ HasSpare w log (2 + more) ∥₁ → 0 < log.room
-spare-room w log more h = ∥∥₁_elim h (λ p q. le_prop p q)
-    (λ s. let l : owed_by s.state.requests + (2 + more) ≤ log.room = s.spare in omega arith)
+pub spare-room : {P I A : Type 0} (w : World P I A) (history : History) (more : ℕ)
+    → ∥ HasSpare w history (2 + more) ∥₁ → 0 < history.room
+spare-room w history more h = ∥∥₁_elim h (λ p q. le_prop p q)
+    (λ s. let l : owed_by s.state.requests + (2 + more) ≤ history.room = s.spare in omega arith)
 
 module _ {W P I A : Type 0} (seen : W → Seen P I A) {origins : List Origin} (id : ℕ) (walk : W)
     (calls : List RequestKey) (children : Children W)
@@ -106,11 +106,11 @@ module _ {W P I A : Type 0} (seen : W → Seen P I A) {origins : List Origin} (i
   entered-nested os v = subst AreNested (sym (os ∙ ap (λ l. origins ++ l) n.origins))
       (nested-append origins id n.depth calls n.has_depth n.not_deep v)
 
-module _ {W P I A : Type 0} (seen : W → Seen P I A) (w : World P I A) {log : History}
+module _ {W P I A : Type 0} (seen : W → Seen P I A) (w : World P I A) {history : History}
     {origins : List Origin} {slots : List (Slot W)} {making : List (Option RunId)}
     {table : TableRuns} {end : Option End} (id : ℕ) (walk : W) where
-  pub slot-there : ∥ Shown seen w log origins slots making table end ∥₁
-      → ∥ IsOwn w log.events table.finished id (seen walk) ∥₁ → id < length slots
+  pub slot-there : ∥ Shown seen w history origins slots making table end ∥₁
+      → ∥ IsOwn w history.events table.finished id (seen walk) ∥₁ → id < length slots
   slot-there shown own = ∥∥₁_elim shown (λ p q. le_prop p q)
       (λ x. ∥∥₁_elim own (λ p q. le_prop p q)
       (λ o. at-less slots id _ (there-of seen w x id (seen walk).position o.stands).at_slots))
@@ -121,16 +121,16 @@ module _ {W P I A : Type 0} (seen : W → Seen P I A) (w : World P I A) {log : H
         {outs : List (Slot W)} {bodies : List (Option RunId)} → end ≡ None
         → ask_of (seen walk).position ≡ Call calls
         → length (with_all instances calls) ≤ most_instances →
-        after.events ≡ log.events ++ Request id calls ∷ [] → log.room ≡ after.room + 1
+        after.events ≡ history.events ++ Request id calls ∷ [] → history.room ≡ after.room + 1
         → origins_now ≡ origins ++ children.origins.items
         → AreEntered slots outs id walk children → bodies ≡ making ++ children.making.items →
-        Shown seen w log origins slots making table end
-        → IsOwn w log.events table.finished id (seen walk)
+        Shown seen w history origins slots making table end
+        → IsOwn w history.events table.finished id (seen walk)
         → AreCounted instances (map instance_asked origins)
-        → HasSpare w log (2 + 2 * length calls)
+        → HasSpare w history (2 + 2 * length calls)
         → Shown seen w after origins_now outs bodies table end
     entered-shown instances none a few ev room os e bs x o k spare =
-        called-shown seen w log after id walk calls x
+        called-shown seen w history after id walk calls x
         (calls-of (seen walk).position.runs (seen walk).position.place calls a)
         (there-of seen w x id (seen walk).position o.stands)
         instances e.calls children.slots.items n.depth o none n.has_depth n.not_deep k few spare
@@ -144,8 +144,8 @@ module _ {W P I A : Type 0} (seen : W → Seen P I A) (w : World P I A) {log : H
         unready slots + length calls ≤ ready.room → ready.room ≡ next.room + count
         → ((m : ℕ) → among m next.numbers
         ≡ ((nat_le first m && nat_lt m (first + count)) || among m ready.numbers)) →
-        Shown seen w log origins slots making table end
-        → IsOwn w log.events table.finished id (seen walk) → Indexed slots ready waiting
+        Shown seen w history origins slots making table end
+        → IsOwn w history.events table.finished id (seen walk) → Indexed slots ready waiting
         → Indexed outs next lists
     entered-indexed ready next waiting lists {outs} first count f c e ws spare room numbers x o y =
         called-indexed seen (seen walk) slots children.slots.items ready next waiting lists outs id

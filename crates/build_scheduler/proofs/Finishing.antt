@@ -255,11 +255,11 @@ waits-same : {P I A : Type 0} (r s : RunId) (b c : Body I A) (g h : Record → J
     → waits r b g ≡ waits s c h → r ≡ s
 waits-same r s b c g h e = cc
 
-module _ {W P I A : Type 0} (seen : W → Seen P I A) (w : World P I A) (log after : History)
+module _ {W P I A : Type 0} (seen : W → Seen P I A) (w : World P I A) (history after : History)
     {origins : List Origin} {slots : List (Slot W)} {making : List (Option RunId)}
     {table : TableRuns} {end : Option End}
     (id : ℕ) (run : RunId) (made : Record) (p : Position P I A)
-    (x : Shown seen w log origins slots making table end) where
+    (x : Shown seen w history origins slots making table end) where
   module _ (e : Ends p.place run made) (h : There slots x.state id p) where
     abbrev finished_run : FinishedRun
     finished_run = record { run = e.inside.run; made = recorded e.outcome e.inside.so_far.segments }
@@ -321,7 +321,7 @@ module _ {W P I A : Type 0} (seen : W → Seen P I A) (w : World P I A) (log aft
 
     result-possible : IsPossible w x.state (Result id e.inside.run)
     result-possible = elim
-        (goes w log.events x.state x.history id h.node was_request
+        (goes w history.events x.state x.history id h.node was_request
         (within e.inside (ends e.outcome)) h.at_state was_status) [ inl g ↦ g | inr g ↦ absurd g ]
 
     pub woken-requests : (requests : List (RequestState P I A)) × wakes requests
@@ -342,7 +342,7 @@ module _ {W P I A : Type 0} (seen : W → Seen P I A) (w : World P I A) (log aft
     open_run : (found x.state.table e.inside.run ≡ None)
         × (beginner x.state.begun e.inside.run ≡ Some id)
     open_run =
-        let v = lawful w log.events x.state x.history in
+        let v = lawful w history.events x.state x.history in
         let y = inside-open x.state v id (kin_of was_request) e.inside.run
         (kins-at x.state.requests id was_request h.at_state) (ap inside_of was_status)
         in (y.0.1, y.1)
@@ -352,8 +352,8 @@ module _ {W P I A : Type 0} (seen : W → Seen P I A) (w : World P I A) (log aft
         → request_of (unfinished x.state.table x.state.begun) other ≡ Some id
         → is_begun other x.state.begun ≡ true → other ≡ e.inside.run
     one_run other n r b =
-        let v = lawful w log.events x.state x.history in
-        let k = kindred w log.events x.state x.history in
+        let v = lawful w history.events x.state x.history in
+        let k = kindred w history.events x.state x.history in
         let y = k.free.working other (b, n) in
         let z = inside-open x.state v y.0 y.1 other y.2 y.3 in
         let same : y.0
@@ -365,8 +365,8 @@ module _ {W P I A : Type 0} (seen : W → Seen P I A) (w : World P I A) (log aft
         some-is other e.inside.run
         (sym y.3 ∙ (ap (λ (a : Kin). a.inside) kin ∙ ap inside_of was_status))
 
-    later : (requests : List (RequestState P I A)) (count : ℕ) → length log.events ≤ count
-        → Later w x.state (state_after requests) (length log.events) count
+    later : (requests : List (RequestState P I A)) (count : ℕ) → length history.events ≤ count
+        → Later w x.state (state_after requests) (length history.events) count
     later requests count l = record {
       has = λ r m g. found-grows x.state.table finished_run open_run.0 r m g;
       goes = λ a b answer g. answered-more w x.state.table finished_run open_run.0 a b answer g;
@@ -381,9 +381,9 @@ module _ {W P I A : Type 0} (seen : W → Seen P I A) (w : World P I A) (log aft
 
     -- a slot after the run is finished
     slot-woken : (requests : List (RequestState P I A)) → wakes requests → (count : ℕ)
-        → length log.events ≤ count → (n : ℕ) (slot : Slot W) (q z : RequestState P I A)
+        → length history.events ≤ count → (n : ℕ) (slot : Slot W) (q z : RequestState P I A)
         → at (put x.state.requests id next_request) n ≡ Some q →
-        ShowsSlot w x.state (length log.events) seen slot q
+        ShowsSlot w x.state (length history.events) seen slot q
         → woken w records_after e.inside.run finished_run.made q ≡ Some z
         → ShowsSlot w (state_after requests) count seen (woken_by id slot) z
     slot-woken requests k count l n (Ready walk answer) q z a s g =
@@ -392,7 +392,7 @@ module _ {W P I A : Type 0} (seen : W → Seen P I A) (w : World P I A) (log aft
         let same : q ≡ z = unwoken w records_after finished_run q z (ready s.position.place) st refl
         g in
         subst (λ b. ShowsSlot w (state_after requests) count seen (Ready walk answer) b) same
-        (slot-later w seen x.state (state_after requests) (length log.events) count
+        (slot-later w seen x.state (state_after requests) (length history.events) count
         (later requests count l) (Ready walk answer) q (record {
           begun = λ r b go by h i. absurd (let c : ready s.position.place ≡ waits r b go = sym st
               ∙ h in cc);
@@ -406,7 +406,7 @@ module _ {W P I A : Type 0} (seen : W → Seen P I A) (w : World P I A) (log aft
     slot-woken requests k count l n (Calling calls) q z a s g =
         let same : q ≡ z = unwoken w records_after finished_run q z _ s.is refl g in
         subst (λ b. ShowsSlot w (state_after requests) count seen (Calling calls) b) same
-        (slot-later w seen x.state (state_after requests) (length log.events) count
+        (slot-later w seen x.state (state_after requests) (length history.events) count
         (later requests count l) (Calling calls) q (record {
           begun = λ r b go by h i. absurd (let c = sym s.is ∙ h in cc);
           told = λ keys ids y go h. map-alike _ _ ids (told-after requests k);
@@ -428,7 +428,7 @@ module _ {W P I A : Type 0} (seen : W → Seen P I A) (w : World P I A) (log aft
         open_there : (is_begun s.run x.state.begun ≡ true) × (found x.state.table s.run ≡ None)
         open_there = subst
             (λ (st : Status P I A). LawfulStatus x.state.begun x.state.table n q.journal st) s.is
-            ((lawful w log.events x.state x.history).each n q there).status
+            ((lawful w history.events x.state x.history).each n q there).status
 
         woken_now : woken_if w (same_run s.run e.inside.run) records_after q finished_run.made s.run
             s.go ≡ Some z
@@ -450,7 +450,7 @@ module _ {W P I A : Type 0} (seen : W → Seen P I A) (w : World P I A) (log aft
               position = position;
               goes = record {
                 world = s.stands.world;
-                learnt = part-later w x.state (state_after requests) (length log.events) count
+                learnt = part-later w x.state (state_after requests) (length history.events) count
                     (later requests count l) (seen walk).learnt s.stands.learnt;
                 goes = ap (λ b. answered w records_after b Use) s.stands.position
                     ∙ (ap
@@ -463,7 +463,8 @@ module _ {W P I A : Type 0} (seen : W → Seen P I A) (w : World P I A) (log aft
                     and_then o
                     (λ next. Some (after_run q.runs s.run s.go finished_run.made next))) y.1);
                 turn = s.stands.asked;
-                few = let c : (seen walk).asked ≤ length log.events = s.stands.few in omega arith;
+                few = let c : (seen walk).asked
+                    ≤ length history.events = s.stands.few in omega arith;
               };
               is = subst (λ (b : RequestState P I A). b ≡ placed b.origin position ready)
                   (some-is _ z y.2) refl;
@@ -491,7 +492,7 @@ module _ {W P I A : Type 0} (seen : W → Seen P I A) (w : World P I A) (log aft
             (sym (ap (λ t. woken_if w t records_after q finished_run.made s.run s.go) apart)
             ∙ woken_now) in
             subst (λ b. ShowsWaiting w (state_after requests) count (seen walk) by b) same
-            (slot-later w seen x.state (state_after requests) (length log.events) count
+            (slot-later w seen x.state (state_after requests) (length history.events) count
             (later requests count l) (Waiting walk by) q (record {
               begun = λ r b go by h i.
                   let c : s.run ≡ r = waits-same s.run r s.body b s.go go (sym s.is ∙ h) in
@@ -516,7 +517,8 @@ module _ {W P I A : Type 0} (seen : W → Seen P I A) (w : World P I A) (log aft
     -- the core shows the state after the run is finished
     finished-shown : (requests : List (RequestState P I A)) → wakes requests
         → {outs : List (Slot W)} {bodies : List (Option RunId)} {runs : TableRuns} → end ≡ None
-        → after.events ≡ log.events ++ Result id e.inside.run ∷ [] → log.room ≡ after.room + 1 →
+        → after.events ≡ history.events ++ Result id e.inside.run ∷ []
+        → history.room ≡ after.room + 1 →
         outs ≡ map (woken_by id) slots → bodies ≡ put making id None
         → runs.finished ≡ finished_run ∷ table.finished
         → runs.begun ≡ without e.inside.run table.begun
@@ -524,7 +526,7 @@ module _ {W P I A : Type 0} (seen : W → Seen P I A) (w : World P I A) (log aft
     finished-shown requests k {outs} {bodies} {runs} none ev room os bs fin beg = record {
       state = state_after requests;
       history = subst (λ es. IsHistory w es (state_after requests)) (sym ev)
-          (more w log.events (Result id e.inside.run) x.state (state_after requests) x.history
+          (more w history.events (Result id e.inside.run) x.state (state_after requests) x.history
           (stepped requests k));
       asked = x.asked
           ∙ (sym (map-put origin_of x.state.requests id was_request next_request h.at_state refl)
@@ -537,20 +539,20 @@ module _ {W P I A : Type 0} (seen : W → Seen P I A) (w : World P I A) (log aft
           (λ (xs : List (Slot W)).
           Paired (ShowsSlot w (state_after requests) (length after.events) seen) xs requests)
           (sym os)
-          (paired-traverse (ShowsSlot w x.state (length log.events) seen)
+          (paired-traverse (ShowsSlot w x.state (length history.events) seen)
           (ShowsSlot w (state_after requests) (length after.events) seen) (woken_by id)
           (woken w records_after e.inside.run finished_run.made) slots
           (put x.state.requests id next_request) requests
           (subst
-          (λ (xs : List (Slot W)). Paired (ShowsSlot w x.state (length log.events) seen) xs
+          (λ (xs : List (Slot W)). Paired (ShowsSlot w x.state (length history.events) seen) xs
           (put x.state.requests id next_request))
           (put-there slots id (Assigned h.node) h.at_slots)
-          (paired-puts (ShowsSlot w x.state (length log.events) seen)
-          (ShowsSlot w x.state (length log.events) seen) slots x.state.requests id
+          (paired-puts (ShowsSlot w x.state (length history.events) seen)
+          (ShowsSlot w x.state (length history.events) seen) slots x.state.requests id
           (Assigned h.node) next_request (λ n a b d g s. s)
           (record { place = next_position.place; is = refl }) x.each)) k
           (slot-woken requests k (length after.events)
-          (let c = one-more log.events after.events (Result id e.inside.run) ev in omega
+          (let c = one-more history.events after.events (Result id e.inside.run) ev in omega
           arith)));
       bodies = bs
           ∙ (ap (λ ms. put ms id None) x.bodies
@@ -568,7 +570,7 @@ module _ {W P I A : Type 0} (seen : W → Seen P I A) (w : World P I A) (log aft
           records_after finished_run (put x.state.requests id next_request) requests k in
           let b = owed-put x.state.requests id was_request next_request h.at_state in
           let c : owed was_request.status ≡ 2 = ap owed was_status in
-          let d : owed_by x.state.requests ≤ log.room = x.room in omega arith;
+          let d : owed_by x.state.requests ≤ history.room = x.room in omega arith;
       ends = subst (ShowsEnd (state_after requests)) (sym none)
           (ends-alike x.state (state_after requests) (told-after requests k 0)
           (subst (ShowsEnd x.state) none x.ends));
@@ -583,21 +585,21 @@ module _ {W P I A : Type 0} (seen : W → Seen P I A) (w : World P I A) (log aft
         y.1 ∙ sym y.2
 
     finished-with : (requests : List (RequestState P I A)) → wakes requests
-        → after.events ≡ log.events ++ Result id e.inside.run ∷ []
+        → after.events ≡ history.events ++ Result id e.inside.run ∷ []
         → IsWith w after.events id next_position
     finished-with requests k ev = record {
       state = state_after requests;
       origin = h.origin;
       node = h.node;
       history = subst (λ es. IsHistory w es (state_after requests)) (sym ev)
-          (more w log.events (Result id e.inside.run) x.state (state_after requests) x.history
+          (more w history.events (Result id e.inside.run) x.state (state_after requests) x.history
           (stepped requests k));
       there = finished-there requests k;
     }
 
     finished-out : (walk : W) → (seen walk).position ≡ p
-        → IsOwn w log.events table.finished id (seen walk)
-        → after.events ≡ log.events ++ Result id e.inside.run ∷ [] → {runs : Records}
+        → IsOwn w history.events table.finished id (seen walk)
+        → after.events ≡ history.events ++ Result id e.inside.run ∷ [] → {runs : Records}
         → runs ≡ finished_run ∷ table.finished →
         IsOut w after.events runs id (seen walk) Use
     finished-out walk same o ev {runs} fin =
@@ -607,91 +609,92 @@ module _ {W P I A : Type 0} (seen : W → Seen P I A) (w : World P I A) (log aft
           world = o.world;
           learnt = subst (ArePartOf (seen walk).learnt)
               (sym (fin ∙ ap (λ t. finished_run ∷ t) x.finished))
-              (part-later w x.state (state_after y.0) (length log.events) (length log.events)
-              (later y.0 (length log.events) (omega arith)) (seen walk).learnt
+              (part-later w x.state (state_after y.0) (length history.events)
+              (length history.events)
+              (later y.0 (length history.events) (omega arith)) (seen walk).learnt
               (subst (ArePartOf (seen walk).learnt) x.finished o.learnt));
           goes = ap (λ b. answered w runs b Use) same
               ∙ ap (λ place. answered_at w runs p.journal p.runs place Use) e.is;
           turn = o.asked;
-          few = let c : length after.events ≡ suc (length log.events) = one-more log.events
+          few = let c : length after.events ≡ suc (length history.events) = one-more history.events
               after.events (Result id e.inside.run) ev in let m : (seen walk).asked
-              ≤ length log.events = o.few in omega arith;
+              ≤ length history.events = o.few in omega arith;
         }
 
 -- the run of a request whose body has ended
-module _ {W P I A : Type 0} (seen : W → Seen P I A) (w : World P I A) (log after : History)
+module _ {W P I A : Type 0} (seen : W → Seen P I A) (w : World P I A) (history after : History)
     {origins : List Origin} {slots : List (Slot W)} {making : List (Option RunId)}
     {table : TableRuns} {end : Option End} (id : ℕ) (run : RunId) (made : Record) where
   pub finish-shown : {outs : List (Slot W)} {bodies : List (Option RunId)} {runs : TableRuns}
-      → Asks w log.events id (Finished run made) → end ≡ None
-      → after.events ≡ log.events ++ Result id run ∷ [] → log.room ≡ after.room + 1 →
+      → Asks w history.events id (Finished run made) → end ≡ None
+      → after.events ≡ history.events ++ Result id run ∷ [] → history.room ≡ after.room + 1 →
       outs ≡ map (woken_by id) slots → bodies ≡ put making id None
       → runs.finished ≡ record { run = run; made = made } ∷ table.finished
-      → runs.begun ≡ without run table.begun → Shown seen w log origins slots making table end →
+      → runs.begun ≡ without run table.begun → Shown seen w history origins slots making table end →
       Shown seen w after origins outs bodies runs end
   finish-shown a none ev room os bs fin beg x =
       let p : Position P I A = a.position in
       let e = ends-of p.runs p.place run made a.asks in
       let h = there-of seen w x id p a.stands in
-      let y = woken-requests seen w log after id run made p x e h in
-      finished-shown seen w log after id run made p x e h y.0 y.1 none
-      (ev ∙ ap (λ r. log.events ++ Result id r ∷ []) (sym e.run_is)) room os bs
+      let y = woken-requests seen w history after id run made p x e h in
+      finished-shown seen w history after id run made p x e h y.0 y.1 none
+      (ev ∙ ap (λ r. history.events ++ Result id r ∷ []) (sym e.run_is)) room os bs
       (fin
       ∙ (ap (λ r. record { run = r; made = made } ∷ table.finished) (sym e.run_is)
       ∙ ap (λ m. record { run = e.inside.run; made = m } ∷ table.finished) (sym e.made_is)))
       (beg ∙ ap (λ r. without r table.begun) (sym e.run_is))
 
-  pub finish-out : (walk : W) → IsOwn w log.events table.finished id (seen walk)
+  pub finish-out : (walk : W) → IsOwn w history.events table.finished id (seen walk)
       → ask_of (seen walk).position ≡ Finished run made
-      → after.events ≡ log.events ++ Result id run ∷ [] → {runs : Records} →
+      → after.events ≡ history.events ++ Result id run ∷ [] → {runs : Records} →
       runs ≡ record { run = run; made = made } ∷ table.finished
-      → Shown seen w log origins slots making table end
+      → Shown seen w history origins slots making table end
       → IsOut w after.events runs id (seen walk) Use
   finish-out walk o a ev fin x =
       let p : Position P I A = (seen walk).position in
       let e = ends-of p.runs p.place run made a in
       let h = there-of seen w x id p o.stands in
-      finished-out seen w log after id run made p x e h walk refl o
-      (ev ∙ ap (λ r. log.events ++ Result id r ∷ []) (sym e.run_is))
+      finished-out seen w history after id run made p x e h walk refl o
+      (ev ∙ ap (λ r. history.events ++ Result id r ∷ []) (sym e.run_is))
       (fin
       ∙ (ap (λ r. record { run = r; made = made } ∷ table.finished) (sym e.run_is)
       ∙ ap (λ m. record { run = e.inside.run; made = m } ∷ table.finished) (sym e.made_is)))
 
   -- before the run is finished: it is begun, the request is in its body, and there is room for the
   -- event
-  pub finish-begun : Asks w log.events id (Finished run made)
-      → Shown seen w log origins slots making table end → request_of table.begun run ≡ Some id
+  pub finish-begun : Asks w history.events id (Finished run made)
+      → Shown seen w history origins slots making table end → request_of table.begun run ≡ Some id
   finish-begun a x =
       let p : Position P I A = a.position in
       let e = ends-of p.runs p.place run made a.asks in
       let h = there-of seen w x id p a.stands in
-      let y = open_run seen w log after id run made p x e h in
+      let y = open_run seen w history after id run made p x e h in
       ap (λ bs. request_of bs run) x.begun
       ∙ (ap (request_of (unfinished x.state.table x.state.begun)) (sym e.run_is)
       ∙ (unfinished-beginner x.state.table x.state.begun e.inside.run y.0 ∙ y.1))
 
   -- the run has no record before
-  pub finish-new : Asks w log.events id (Finished run made) →
-      Shown seen w log origins slots making table end → found table.finished run ≡ None
+  pub finish-new : Asks w history.events id (Finished run made) →
+      Shown seen w history origins slots making table end → found table.finished run ≡ None
   finish-new a x =
       let p : Position P I A = a.position in
       let e = ends-of p.runs p.place run made a.asks in
       let h = there-of seen w x id p a.stands in
-      let y = open_run seen w log after id run made p x e h in
+      let y = open_run seen w history after id run made p x e h in
       ap (λ records. found records run) x.finished ∙ (ap (found x.state.table) (sym e.run_is) ∙ y.0)
 
-  pub finish-room : Asks w log.events id (Finished run made)
-      → Shown seen w log origins slots making table end → 0 < log.room
+  pub finish-room : Asks w history.events id (Finished run made)
+      → Shown seen w history origins slots making table end → 0 < history.room
   finish-room a x =
       let p : Position P I A = a.position in
       let e = ends-of p.runs p.place run made a.asks in
       let h = there-of seen w x id p a.stands in
       let b = owed-at x.state.requests id _ h.at_state in
       let c : owed_in p.place ≡ 2 = ap owed_in e.is in
-      let d : owed_by x.state.requests ≤ log.room = x.room in omega arith
+      let d : owed_by x.state.requests ≤ history.room = x.room in omega arith
 
-  pub finish-making : Asks w log.events id (Finished run made)
-      → Shown seen w log origins slots making table end → at making id ≡ Some (Some run)
+  pub finish-making : Asks w history.events id (Finished run made)
+      → Shown seen w history origins slots making table end → at making id ≡ Some (Some run)
   finish-making a x =
       let p : Position P I A = a.position in
       let e = ends-of p.runs p.place run made a.asks in
@@ -700,8 +703,9 @@ module _ {W P I A : Type 0} (seen : W → Seen P I A) (w : World P I A) (log aft
       ∙ (map-at making_of x.state.requests id _ h.at_state
       ∙ ap Some (ap run_in e.is ∙ ap Some e.run_is))
 
-  pub finish-slots : Asks w log.events id (Finished run made)
-      → Shown seen w log origins slots making table end → (id < length making) × (id < length slots)
+  pub finish-slots : Asks w history.events id (Finished run made)
+      → Shown seen w history origins slots making table end
+      → (id < length making) × (id < length slots)
   finish-slots a x =
       let h = there-of seen w x id a.position a.stands in (
         at-less making id (Some run) (finish-making a x),
@@ -713,29 +717,31 @@ run-prop : (r s : RunId) → IsProp (r ≡ s)
 run-prop r s = hlevel props
 
 -- the same of a core that shows a state
-module _ {W P I A : Type 0} (seen : W → Seen P I A) (w : World P I A) {log : History}
+module _ {W P I A : Type 0} (seen : W → Seen P I A) (w : World P I A) {history : History}
     {origins : List Origin} {slots : List (Slot W)} {making : List (Option RunId)}
     {table : TableRuns} {end : Option End} (id : ℕ) (run : RunId) (made : Record)
-    (shown : ∥ Shown seen w log origins slots making table end ∥₁)
-    (asked : ∥ Asks w log.events id (Finished run made) ∥₁) where
+    (shown : ∥ Shown seen w history origins slots making table end ∥₁)
+    (asked : ∥ Asks w history.events id (Finished run made) ∥₁) where
   pub finishes-begun : IsSome (request_of table.begun run)
   finishes-begun = ∥∥₁_elim shown (some-prop _)
       (λ x.
-      ∥∥₁_elim asked (some-prop _) (λ a. ap is_some (finish-begun seen w log log id run made a x)))
+      ∥∥₁_elim asked (some-prop _)
+      (λ a. ap is_some (finish-begun seen w history history id run made a x)))
 
-  pub finishes-room : 0 < log.room
+  pub finishes-room : 0 < history.room
   finishes-room = ∥∥₁_elim shown (λ p q. le_prop p q)
-      (λ x. ∥∥₁_elim asked (λ p q. le_prop p q) (λ a. finish-room seen w log log id run made a x))
+      (λ x. ∥∥₁_elim asked (λ p q. le_prop p q)
+      (λ a. finish-room seen w history history id run made a x))
 
   pub finishes-there : id < length making
   finishes-there = ∥∥₁_elim shown (λ p q. le_prop p q)
       (λ x. ∥∥₁_elim asked (λ p q. le_prop p q)
-      (λ a. (finish-slots seen w log log id run made a x).0))
+      (λ a. (finish-slots seen w history history id run made a x).0))
 
   pub finishes-slot : id < length slots
   finishes-slot = ∥∥₁_elim shown (λ p q. le_prop p q)
       (λ x. ∥∥₁_elim asked (λ p q. le_prop p q)
-      (λ a. (finish-slots seen w log log id run made a x).1))
+      (λ a. (finish-slots seen w history history id run made a x).1))
 
   pub finishes-named : (r : RunId) → at making id ≡ Some (Some r) → r ≡ run
   finishes-named r e = ∥∥₁_elim shown (run-prop r run)
@@ -743,11 +749,12 @@ module _ {W P I A : Type 0} (seen : W → Seen P I A) (w : World P I A) {log : H
       ∥∥₁_elim asked (run-prop r run)
       (λ a.
       some-is r run
-      (some-is (Some r) (Some run) (sym e ∙ finish-making seen w log log id run made a x))))
+      (some-is (Some r) (Some run) (sym e ∙ finish-making seen w history history id run made a x))))
 
   pub finishes-some : at making id ≡ Some None → ⊥
   finishes-some e = ∥∥₁_elim shown (λ p. absurd p)
       (λ x.
       ∥∥₁_elim asked (λ p. absurd p) (λ a. let c : None
-      ≡ Some run = some-is None (Some run) (sym e ∙ finish-making seen w log log id run made a x)
+      ≡ Some run = some-is None (Some run) (sym e
+      ∙ finish-making seen w history history id run made a x)
       in cc))

@@ -54,22 +54,23 @@ use Rattle.build_scheduler.proofs.ClosingCycles.{calls-within, free-open}
 use Rattle.build_scheduler.proofs.HistoryFacts.{one_state}
 use Rattle.build_scheduler.proofs.Waiting.{begun-there}
 
-module _ {W P I A : Type 0} (seen : W → Seen P I A) (w : World P I A) {log : History}
+module _ {W P I A : Type 0} (seen : W → Seen P I A) (w : World P I A) {history : History}
     {origins : List Origin} {slots : List (Slot W)} {making : List (Option RunId)}
     {table : TableRuns} {end : Option End} where
   -- there is a body or none for each slot
-  pub bodies-there : ∥ Shown seen w log origins slots making table end ∥₁ →
+  pub bodies-there : ∥ Shown seen w history origins slots making table end ∥₁ →
       length slots ≤ length making
   bodies-there shown = ∥∥₁_elim shown (λ p q. le_prop p q) (λ x.
       let a : length slots ≡ length x.state.requests =
-      Paired-length (ShowsSlot w x.state (length log.events) seen) slots x.state.requests x.each in
+      Paired-length (ShowsSlot w x.state (length history.events) seen) slots x.state.requests x.each
+      in
       let b : length making ≡ length x.state.requests =
       ap length x.bodies ∙ length-map x.state.requests making_of in omega arith)
 
-module _ {W P I A : Type 0} (seen : W → Seen P I A) (w : World P I A) {log : History}
+module _ {W P I A : Type 0} (seen : W → Seen P I A) (w : World P I A) {history : History}
     {origins : List Origin} {slots : List (Slot W)} {making : List (Option RunId)}
     {table : TableRuns} {end : Option End} {ready_ones : Numbered} {waiting_ones : List Numbered}
-    (shown : ∥ Shown seen w log origins slots making table end ∥₁)
+    (shown : ∥ Shown seen w history origins slots making table end ∥₁)
     (indexed : ∥ Indexed slots ready_ones waiting_ones ∥₁) where
   pub calls-there : (by : ℕ) (calls : Calls W) → at slots by ≡ Some (Calling calls) →
       calls.first + length calls.results.items ≤ length slots
@@ -80,12 +81,12 @@ module _ {W P I A : Type 0} (seen : W → Seen P I A) (w : World P I A) {log : H
   pub free-closes : (id : ℕ) (run : RunId) (by : ℕ) → request_of table.begun run ≡ Some by →
       found table.finished run ≡ None → (HasParent (at origins id) (Some by) → ⊥) →
       NeedsNothing slots making (at slots by) → (runs : List RunId) →
-      ∥ ClosesCycle w log.events id run runs ∥₁ → ⊥
+      ∥ ClosesCycle w history.events id run runs ∥₁ → ⊥
   free-closes id run by b f other free runs c =
       ∥∥₁_elim shown (λ p q. absurd p) (λ x. ∥∥₁_elim indexed (λ p q. absurd p) (λ y.
       ∥∥₁_elim c (λ p q. absurd p) (λ c.
       let one : c.state ≡ x.state =
-      one_state w log.events c.state x.state c.history x.history in
+      one_state w history.events c.state x.state c.history x.history in
       free-open seen w x y id c.node c.request (walking (wants c.site run c.body c.go))
       (subst (λ (s : State P I A). at s.requests id ≡ Some c.request) one c.there) c.wants_so
       run c.body c.go by b f (λ e. other (called e)) free c.between

@@ -63,18 +63,18 @@ same-first : {P I A : Type 0} (keys others : List RequestKey) (a b : ℕ) (more 
     calling keys (a ∷ more) y go ≡ calling others (b ∷ rest) z next → a ≡ b
 same-first keys others a b more rest y z go next e = cc
 
-module _ {W P I A : Type 0} (seen : W → Seen P I A) (w : World P I A) {log : History}
+module _ {W P I A : Type 0} (seen : W → Seen P I A) (w : World P I A) {history : History}
     {origins : List Origin} {slots : List (Slot W)} {making : List (Option RunId)}
     {table : TableRuns} {end : Option End} where
   -- a first call is a call of the one that awaits it
-  first-parent : (id : ℕ) (x : Shown seen w log origins slots making table end)
-      (f : IsFirstCall w log.events id) → HasParent (at origins id) (Some f.caller)
+  first-parent : (id : ℕ) (x : Shown seen w history origins slots making table end)
+      (f : IsFirstCall w history.events id) → HasParent (at origins id) (Some f.caller)
   first-parent id x f =
       let same : f.state ≡ x.state =
-      one_state w log.events f.state x.state f.history x.history in
+      one_state w history.events f.state x.state f.history x.history in
       let here : at x.state.requests f.caller ≡ Some f.request =
       subst (λ (s : State P I A). at s.requests f.caller ≡ Some f.request) same f.there in
-      let k = kindred w log.events x.state x.history in
+      let k = kindred w history.events x.state x.history in
       let d = k.family.down f.caller (kin_of f.request) (id ∷ f.others)
       (kins-at x.state.requests f.caller f.request here) (ap ids_in f.awaits) id (inl refl) in
       let q = at-kins x.state.requests id d.0 d.1 in
@@ -84,10 +84,10 @@ module _ {W P I A : Type 0} (seen : W → Seen P I A) (w : World P I A) {log : H
       (sym (ap (λ os. at os id) x.asked ∙ map-at origin_of x.state.requests id q.0 q.1)) parent
 
   first-of : (id caller : ℕ) (calls : Calls W)
-      (x : Shown seen w log origins slots making table end) →
-      at slots caller ≡ Some (Calling calls) → id ≡ calls.first → IsFirstCall w log.events id
+      (x : Shown seen w history origins slots making table end) →
+      at slots caller ≡ Some (Calling calls) → id ≡ calls.first → IsFirstCall w history.events id
   first-of id caller calls x e is =
-      let y = Paired-some (ShowsSlot w x.state (length log.events) seen) slots x.state.requests
+      let y = Paired-some (ShowsSlot w x.state (length history.events) seen) slots x.state.requests
       caller (Calling calls) x.each e in
       record {
         state = x.state;
@@ -105,16 +105,16 @@ module _ {W P I A : Type 0} (seen : W → Seen P I A) (w : World P I A) {log : H
       }
 
   by-first : (id caller : ℕ) (calls : Calls W)
-      (x : Shown seen w log origins slots making table end) →
+      (x : Shown seen w history origins slots making table end) →
       at slots caller ≡ Some (Calling calls) → HasParent (at origins id) (Some caller) →
-      IsFirstCall w log.events id → id ≡ calls.first
+      IsFirstCall w history.events id → id ≡ calls.first
   by-first id caller calls x e parent f =
-      let y = Paired-some (ShowsSlot w x.state (length log.events) seen) slots x.state.requests
+      let y = Paired-some (ShowsSlot w x.state (length history.events) seen) slots x.state.requests
       caller (Calling calls) x.each e in
       let one : f.caller ≡ caller =
       one-parent (at origins id) f.caller caller (first-parent id x f) parent in
       let same : f.state ≡ x.state =
-      one_state w log.events f.state x.state f.history x.history in
+      one_state w history.events f.state x.state f.history x.history in
       let here : at x.state.requests caller ≡ Some f.request =
       subst (λ n. at x.state.requests n ≡ Some f.request) one
       (subst (λ (s : State P I A). at s.requests f.caller ≡ Some f.request) same f.there) in
@@ -125,19 +125,21 @@ module _ {W P I A : Type 0} (seen : W → Seen P I A) (w : World P I A) {log : H
 
   -- a request that none calls is no first call
   pub none-first : (id : ℕ) → HasParent (at origins id) None →
-      ∥ Shown seen w log origins slots making table end ∥₁ → ∥ IsFirstCall w log.events id ∥₁ → ⊥
+      ∥ Shown seen w history origins slots making table end ∥₁
+      → ∥ IsFirstCall w history.events id ∥₁ → ⊥
   none-first id none shown first =
       ∥∥₁_elim shown (λ p. absurd p) (λ x. ∥∥₁_elim first (λ p. absurd p) (λ f.
       no-parent (at origins id) f.caller none (first-parent id x f)))
 
   pub handed-back : (id caller : ℕ) (walk : W) (left : Option W) →
       HasParent (at origins id) (Some caller) →
-      ∥ Shown seen w log origins slots making table end ∥₁ → IsLeft (at slots caller) id walk left →
-      IsHandedBack w log.events id walk left
+      ∥ Shown seen w history origins slots making table end ∥₁
+      → IsLeft (at slots caller) id walk left →
+      IsHandedBack w history.events id walk left
   handed-back id caller walk left parent shown h = go (at slots caller) refl left h
     where
       go : (o : Option (Slot W)) → at slots caller ≡ o → (left : Option W) →
-          IsLeft o id walk left → IsHandedBack w log.events id walk left
+          IsLeft o id walk left → IsHandedBack w history.events id walk left
       go None e left h = absurd h
       go (Some (Ready other answer)) e left h = absurd h
       go (Some (Assigned node)) e left h = absurd h

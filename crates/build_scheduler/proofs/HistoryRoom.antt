@@ -1,4 +1,4 @@
--- The room of a log after an event, and how many of its nodes have retired.
+-- The room of a history after an event, and how many of its nodes have retired.
 use Rattle.std.proofs.Common.{◌≡◌, ◌+◌, ◌<◌, ℕ, List, [], ◌∷◌, ◌++◌, ap, sym, subst, arith}
 use Rattle.build_meaning.specs.declared.event.Event.{Event}
 use Rattle.build_meaning.specs.declared.event.Event.TheVariants.{Retire}

@@ -376,10 +376,11 @@ module _ (origins : List Origin) (waiting : List Numbered) (first : ℕ) where
           let d : length next ≡ length (requests ++ more) = ap length l.2.next_is in
           let e : length after ≡ length (over ++ places) = ap length l.2.after_is in
           let g : length over ≡ length requests = f.lengths in omega arith;
-      there = λ i n e. elim (at-append requests more i n (sym (ap (λ xs. at xs i) l.2.next_is) ∙ e)) [
-        | inl g ↦ f.there i n g
-        | inr g ↦ let c = l.2.callers g.0 n g.1 in bound c.0 n c.2
-      ];
+      there = λ i n e.
+          elim (at-append requests more i n (sym (ap (λ xs. at xs i) l.2.next_is) ∙ e)) [
+            | inl g ↦ f.there i n g
+            | inr g ↦ let c = l.2.callers g.0 n g.1 in bound c.0 n c.2
+          ];
       each = λ i n e above.
           elim (at-append requests more i n (sym (ap (λ xs. at xs i) l.2.next_is) ∙ e)) [
             | inl g ↦ old-found i n g above

@@ -165,25 +165,26 @@ module _ {W P I A : Type 0} (seen : W → Seen P I A) (w : World P I A) where
   }
 
   -- one request changes, whatever end is told then
-  pub shown-change : {log after : History} {origins : List Origin} {slots : List (Slot W)}
+  pub shown-change : {history after : History} {origins : List Origin} {slots : List (Slot W)}
       {making bodies : List (Option RunId)} {table runs : TableRuns} {end told : Option End}
       (event : Event) (id : ℕ) (q z : RequestState P I A) (t : State P I A)
-      (slot : Slot W) → (x : Shown seen w log origins slots making table end)
+      (slot : Slot W) → (x : Shown seen w history origins slots making table end)
       → at x.state.requests id ≡ Some q → step w x.state event ≡ Some t
       → t.requests ≡ put x.state.requests id z → t.table ≡ x.state.table →
-      z.origin ≡ q.origin → after.events ≡ log.events ++ event ∷ []
-      → owed z.status + log.room ≤ after.room + owed q.status →
+      z.origin ≡ q.origin → after.events ≡ history.events ++ event ∷ []
+      → owed z.status + history.room ≤ after.room + owed q.status →
       bodies ≡ map making_of (put x.state.requests id z) → runs.finished ≡ table.finished
       → runs.begun ≡ unfinished t.table t.begun →
       ((n : ℕ) (b : RequestState P I A) → (n ≡ id → ⊥) → at x.state.requests n ≡ Some b
       → Alike w x.state t b) → ShowsSlot w t (length after.events) seen slot z → ShowsEnd t told
       →
       Shown seen w after origins (put slots id slot) bodies runs told
-  shown-change {log} {after} {origins} {slots} {making} {bodies} {table} {runs} {end} {told} event
+  shown-change {history} {after} {origins} {slots} {making} {bodies} {table} {runs} {end} {told}
+      event
       id q z t slot x e st m tb o ev room bo fin beg alike new ends = record {
         state = t;
         history = subst (λ es. IsHistory w es t) (sym ev)
-            (more w log.events event x.state t x.history st);
+            (more w history.events event x.state t x.history st);
         asked = x.asked
             ∙ (sym
             (map-put origin_of x.state.requests id q z e
@@ -191,32 +192,33 @@ module _ {W P I A : Type 0} (seen : W → Seen P I A) (w : World P I A) where
             ∙ ap (map origin_of) (sym m));
         rooted = x.rooted;
         each = subst (Paired (ShowsSlot w t (length after.events) seen) (put slots id slot)) (sym m)
-            (paired-puts (ShowsSlot w x.state (length log.events) seen)
+            (paired-puts (ShowsSlot w x.state (length history.events) seen)
             (ShowsSlot w t (length after.events) seen) slots x.state.requests id slot z
-            (λ n u v d f h. slot-later w seen x.state t (length log.events) (length after.events)
-            (later-same x.state t (length log.events) (length after.events) tb
-            (let k : length after.events ≡ suc (length log.events) = one-more log.events
+            (λ n u v d f h. slot-later w seen x.state t (length history.events)
+            (length after.events)
+            (later-same x.state t (length history.events) (length after.events) tb
+            (let k : length after.events ≡ suc (length history.events) = one-more history.events
             after.events event ev in omega arith)) u v (alike n v d f) h)
             new x.each);
         bodies = bo ∙ ap (map making_of) (sym m);
         finished = fin ∙ (x.finished ∙ sym tb);
         begun = beg;
         room = let h = owed-put x.state.requests id q z e in
-            let r : owed_by x.state.requests ≤ log.room = x.room in
+            let r : owed_by x.state.requests ≤ history.room = x.room in
             let k : owed_by t.requests ≡ owed_by (put x.state.requests id z) = ap owed_by m in omega
             arith;
         ends = ends;
       }
 
-  pub shown-put : {log after : History} {origins : List Origin} {slots : List (Slot W)}
+  pub shown-put : {history after : History} {origins : List Origin} {slots : List (Slot W)}
       {making bodies : List (Option RunId)} {table runs : TableRuns} {end : Option End}
       (event : Event) (id : ℕ) (q z : RequestState P I A) (t : State P I A)
-      (slot : Slot W) → (x : Shown seen w log origins slots making table end)
+      (slot : Slot W) → (x : Shown seen w history origins slots making table end)
       → at x.state.requests id ≡ Some q → step w x.state event ≡ Some t
       → t.requests ≡ put x.state.requests id z → t.table ≡ x.state.table →
       z.origin ≡ q.origin → result_in q.status ≡ None → result_in z.status ≡ None
-      → after.events ≡ log.events ++ event ∷ []
-      → owed z.status + log.room ≤ after.room + owed q.status →
+      → after.events ≡ history.events ++ event ∷ []
+      → owed z.status + history.room ≤ after.room + owed q.status →
       bodies ≡ map making_of (put x.state.requests id z) → runs.finished ≡ table.finished
       → runs.begun ≡ unfinished t.table t.begun →
       ((n : ℕ) (b : RequestState P I A) → (n ≡ id → ⊥) → at x.state.requests n ≡ Some b

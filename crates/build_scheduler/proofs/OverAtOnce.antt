@@ -5,8 +5,6 @@ use Rattle.std.proofs.Common.{
   ◌<◌,
   ◌+◌,
   ℕ,
-  zero,
-  suc,
   true,
   false,
   List,
@@ -15,7 +13,6 @@ use Rattle.std.proofs.Common.{
   ◌++◌,
   length,
   drop,
-  get_or,
   Option,
   None,
   Some,
@@ -34,8 +31,6 @@ use Rattle.std.specs.Prelude.{IsSome, is_some}
 use Rattle.msb_laws.specs.Asking.{and_then}
 use Rattle.result_cache.specs.declared.run.RunId.{RunId}
 use Rattle.result_cache.specs.declared.request.RequestResult.{RequestResult}
-use Rattle.result_cache.specs.Exact.{key-exact}
-use Rattle.result_cache.specs.Same.{same_key}
 use Rattle.result_cache.specs.Journal.{Journal}
 use Rattle.result_cache.specs.Replay.{replay_all}
 use Rattle.result_cache.specs.Table.{Records, TableRuns}
@@ -51,7 +46,6 @@ use Rattle.build_meaning.specs.State.{walking, State}
 use Rattle.build_meaning.specs.History.{IsHistory}
 use Rattle.build_meaning.proofs.ListPlaces.{at-less}
 use Rattle.build_meaning.proofs.PairedLists.{Paired-length, Paired-some}
-use Rattle.build_meaning.proofs.ParentsAndChildren.{same_some}
 use Rattle.build_history.specs.Repeated.{uses_of_all}
 use Rattle.build_scheduler.specs.declared.walker.Ask.{Ask}
 use Rattle.build_scheduler.specs.declared.walker.Ask.TheVariants.{
@@ -108,7 +102,6 @@ use Rattle.build_scheduler.proofs.Repeating.{
   kept-put,
   rest-named,
 }
-use Rattle.build_scheduler.proofs.SlotNumbers.{at-get}
 use Rattle.build_scheduler.proofs.Waiting.{assigned-there, callers-there, own-assigned}
 
 ended-prop : (ask : Ask) → IsProp (HasEnded ask)
@@ -122,14 +115,14 @@ none-of None e = refl
 none-of (Some x) e = absurd (let a : true ≡ false = e in cc)
 
 -- the room that is left for the records, once the request is assigned
-pub uses-room : {P I A : Type 0} (w : World P I A) {log : History} (id node room : ℕ)
-    (rest : List RunId) → ∥ EndsAlike w log id node rest ∥₁ → log.room ≡ room + 1 →
+pub uses-room : {P I A : Type 0} (w : World P I A) {history : History} (id node room : ℕ)
+    (rest : List RunId) → ∥ EndsAlike w history id node rest ∥₁ → history.room ≡ room + 1 →
     length rest ≤ room
-uses-room w {log} id node room rest ends r = ∥∥₁_elim ends (λ p q. le_prop p q) (λ e.
+uses-room w {history} id node room rest ends r = ∥∥₁_elim ends (λ p q. le_prop p q) (λ e.
     let two : owed e.request.status ≡ 2 = ap owed e.between in
     let l : owed e.request.status ≤ owed_by e.state.requests =
     owed-at e.state.requests id e.request e.there in
-    let spare : owed_by e.state.requests + length rest ≤ log.room = e.spare in omega arith)
+    let spare : owed_by e.state.requests + length rest ≤ history.room = e.spare in omega arith)
 
 assign-first : (front : List Event) (id node : ℕ) (more : List Event) →
     (front ++ Assign id node ∷ []) ++ more ≡ front ++ Assign id node ∷ more
@@ -194,20 +187,20 @@ module _ {W P I A : Type 0} (seen : W → Seen P I A) (table : Records) where
   one-journal (Some (Calling calls)) runs j k a b = absurd a
   one-journal (Some Over) runs j k a b = absurd a
 
-module _ {W P I A : Type 0} (seen : W → Seen P I A) (w : World P I A) {log : History}
+module _ {W P I A : Type 0} (seen : W → Seen P I A) (w : World P I A) {history : History}
     {origins : List Origin} {slots : List (Slot W)} {making : List (Option RunId)}
     {table : TableRuns} {end : Option End}
-    (shown : ∥ Shown seen w log origins slots making table end ∥₁) where
-  pub ready-there : (id : ℕ) → ∥ IsReady w log.events id ∥₁ → id < length origins
+    (shown : ∥ Shown seen w history origins slots making table end ∥₁) where
+  pub ready-there : (id : ℕ) → ∥ IsReady w history.events id ∥₁ → id < length origins
   ready-there id ready =
       ∥∥₁_elim shown (λ p q. le_prop p q) (λ x. ∥∥₁_elim ready (λ p q. le_prop p q) (λ r.
       let e = subst (λ (s : State P I A). at s.requests id ≡ Some r.request)
-      (one_state w log.events r.state x.state r.history x.history) r.there in
+      (one_state w history.events r.state x.state r.history x.history) r.there in
       let l : id < length x.state.requests = at-less x.state.requests id r.request e in
       let b : length origins ≡ length x.state.requests =
       ap length x.asked ∙ length-map x.state.requests origin_of in omega arith))
 
-  pub own-there : (id : ℕ) (walk : W) → ∥ IsOwn w log.events table.finished id (seen walk) ∥₁ →
+  pub own-there : (id : ℕ) (walk : W) → ∥ IsOwn w history.events table.finished id (seen walk) ∥₁ →
       id < length origins
   own-there id walk own = assigned-there seen w id shown
       (∥∥₁_map own (λ o. own-assigned seen w id walk o))
@@ -226,13 +219,14 @@ module _ {W P I A : Type 0} (seen : W → Seen P I A) (w : World P I A) {log : H
       callers-there origins nested id caller (ap (λ a. and_then a (λ (o : Origin). o.parent)) e
       ∙ p) in
       let a : length slots ≡ length x.state.requests =
-      Paired-length (ShowsSlot w x.state (length log.events) seen) slots x.state.requests x.each in
+      Paired-length (ShowsSlot w x.state (length history.events) seen) slots x.state.requests x.each
+      in
       let b : length origins ≡ length x.state.requests =
       ap length x.asked ∙ length-map x.state.requests origin_of in omega arith)
 
   -- what is kept of a request that is over
   pub kept-new : (before after : KeptEnds W) (id : ℕ) (walk : W) (told : RequestResult)
-      (kept : Kept W) → ∥ IsOwn w log.events table.finished id (seen walk) ∥₁ →
+      (kept : Kept W) → ∥ IsOwn w history.events table.finished id (seen walk) ∥₁ →
       ask_of (seen walk).position ≡ IsOver told → IsCalled origins id →
       kept.id ≡ id → kept.result ≡ told → seen kept.walk ≡ record {
         world = (seen walk).world;
@@ -258,7 +252,7 @@ module _ {W P I A : Type 0} (seen : W → Seen P I A) (w : World P I A) {log : H
       let v = k kept (for-among ends id kept h) in at-less origins kept.id v.origin v.whose)
 
   -- the walk of a ready request is of this world
-  own-world : (x : Shown seen w log origins slots making table end) (id : ℕ) (own : W) →
+  own-world : (x : Shown seen w history origins slots making table end) (id : ℕ) (own : W) →
       IsReadyWalk (at slots id) own → (seen own).world ≡ w
   own-world x id own h = go (at slots id) refl h
     where
@@ -266,7 +260,7 @@ module _ {W P I A : Type 0} (seen : W → Seen P I A) (w : World P I A) {log : H
           (seen own).world ≡ w
       go None e h = absurd h
       go (Some (Ready walk answer)) e h =
-          let y = Paired-some (ShowsSlot w x.state (length log.events) seen) slots
+          let y = Paired-some (ShowsSlot w x.state (length history.events) seen) slots
           x.state.requests id (Ready walk answer) x.each e in
           subst (λ v. (seen v).world ≡ w) h y.1.goes.world
       go (Some (Assigned node)) e h = absurd h
@@ -276,10 +270,10 @@ module _ {W P I A : Type 0} (seen : W → Seen P I A) (w : World P I A) {log : H
 
   module _ (ends : KeptEnds W) (id : ℕ) (kept : Kept W)
       (each : ∥ AreKept seen w table.finished origins ends.instances.items ∥₁)
-      (ready : ∥ IsReady w log.events id ∥₁)
+      (ready : ∥ IsReady w history.events id ∥₁)
       (s : Serves seen slots origins making ends id kept) where
     abbrev Served : Type 0
-    Served = (x : Shown seen w log origins slots making table end)
+    Served = (x : Shown seen w history origins slots making table end)
         × Alike_end seen w x id kept × IsKept seen w table.finished origins kept
 
     served : ∥ Served ∥₁
@@ -392,7 +386,7 @@ module _ {W P I A : Type 0} (seen : W → Seen P I A) (w : World P I A) {log : H
         end.claims.items ≡ drop (used_in seen (at slots id)) kept.result.runs →
         end.told ≡ kept.result →
         ∥ IsCome seen table.finished (at slots id) kept end.walk ∥₁ →
-        ∥ IsAtOnce seen w table.finished log.events id end ∥₁
+        ∥ IsAtOnce seen w table.finished history.events id end ∥₁
     comes end is_names same_told come = ∥∥₁_map₂ served come (λ v m.
         let x = v.0 in
         let a = v.1 in
@@ -469,17 +463,17 @@ module _ {W P I A : Type 0} (seen : W → Seen P I A) (w : World P I A) (before 
 
   module _ (comes_so : ∥ IsAtOnce seen w known before id how ∥₁) where
     -- there is room for its events
-    pub ends-now : {log : History} {origins : List Origin} {slots : List (Slot W)}
+    pub ends-now : {history : History} {origins : List Origin} {slots : List (Slot W)}
         {making : List (Option RunId)} {table : TableRuns} {end : Option End} (after : History) →
-        ∥ Shown seen w log origins slots making table end ∥₁ → log.events ≡ before →
-        after.events ≡ before → after.room ≡ log.room + length how.claims.items →
+        ∥ Shown seen w history origins slots making table end ∥₁ → history.events ≡ before →
+        after.events ≡ before → after.room ≡ history.room + length how.claims.items →
         ∥ EndsAlike w after id node how.claims.items ∥₁
-    ends-now {log = log} after shown was ev room = ∥∥₁_map₂ shown comes_so (λ x a.
+    ends-now {history = history} after shown was ev room = ∥∥₁_map₂ shown comes_so (λ x a.
         let mine : IsHistory w before x.state =
         subst (λ es. IsHistory w es x.state) was x.history in
         let one : x.state ≡ a.state = one_state w before x.state a.state mine a.history in
-        let owes : owed_by a.state.requests ≤ log.room =
-        subst (λ (s : State P I A). owed_by s.requests ≤ log.room) one x.room in
+        let owes : owed_by a.state.requests ≤ history.room =
+        subst (λ (s : State P I A). owed_by s.requests ≤ history.room) one x.room in
         let spare : owed_by a.state.requests + length how.claims.items ≤ after.room =
         omega arith in
         ends-of a after ev spare)
@@ -495,7 +489,8 @@ module _ {W P I A : Type 0} (seen : W → Seen P I A) (w : World P I A) (before 
         } in
         let most : ℕ = owed_by a.state.requests + length how.claims.items in
         let spare : most ≤ most = omega arith in
-        ends-own seen w {log = roomy} id node (ends-of a roomy refl spare) events records a.reply
+        ends-own seen w {history = roomy} id node (ends-of a roomy refl spare) events records
+        a.reply
         how.walk ev a.result a.stands)
 
     pub over-asks : (events : List Event) →

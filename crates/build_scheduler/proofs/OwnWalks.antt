@@ -132,20 +132,21 @@ module _ {W P I A : Type 0} (seen : W → Seen P I A) (w : World P I A) where
   slot-assigned s count Over origin p node h = absurd
       (let a : assigned node p.place ≡ done h.result = h.is in cc)
 
-  pub there-of : {log : History} {origins : List Origin} {slots : List (Slot W)}
+  pub there-of : {history : History} {origins : List Origin} {slots : List (Slot W)}
       {making : List (Option RunId)} {table : TableRuns} {end : Option End}
-      (x : Shown seen w log origins slots making table end) (id : ℕ) (p : Position P I A) →
-      IsWith w log.events id p → There slots x.state id p
-  there-of {log} {origins} {slots} x id p r =
+      (x : Shown seen w history origins slots making table end) (id : ℕ) (p : Position P I A) →
+      IsWith w history.events id p → There slots x.state id p
+  there-of {history} {origins} {slots} x id p r =
       let e : at x.state.requests id ≡ Some (placed r.origin p (assigned r.node)) = subst
       (λ (s : State P I A). at s.requests id ≡ Some (placed r.origin p (assigned r.node)))
-      (one_state w log.events r.state x.state r.history x.history) r.there in
-      let y = paired-other (ShowsSlot w x.state (length log.events) seen) slots x.state.requests id
+      (one_state w history.events r.state x.state r.history x.history) r.there in
+      let y = paired-other (ShowsSlot w x.state (length history.events) seen) slots x.state.requests
+      id
       (placed r.origin p (assigned r.node)) x.each e in
       record {
         origin = r.origin;
         node = r.node;
         at_state = e;
         at_slots = y.2
-            ∙ ap Some (slot-assigned x.state (length log.events) y.0 r.origin p r.node y.1);
+            ∙ ap Some (slot-assigned x.state (length history.events) y.0 r.origin p r.node y.1);
       }

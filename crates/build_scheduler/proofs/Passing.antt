@@ -86,8 +86,8 @@ pub journal-prop : (o : Option Journal) (j : Journal) → IsProp (o ≡ Some j)
 journal-prop o j = hlevel (props, entry-set)
 
 -- the request is over in a core that has the same world and the same events
-pub asks-same : {P I A : Type 0} {v w : World P I A} {log after : History} (id : ℕ)
-    (told : RequestResult) → w ≡ v → after ≡ log → ∥ Asks v log.events id (IsOver told) ∥₁ →
+pub asks-same : {P I A : Type 0} {v w : World P I A} {history after : History} (id : ℕ)
+    (told : RequestResult) → w ≡ v → after ≡ history → ∥ Asks v history.events id (IsOver told) ∥₁ →
     ∥ Asks w after.events id (IsOver told) ∥₁
 asks-same {v = v} {after = after} id told e f h =
     subst (λ u. ∥ Asks u after.events id (IsOver told) ∥₁) (sym e)
@@ -116,17 +116,19 @@ module _ {W P I A : Type 0} (seen : W → Seen P I A) where
   can_take-calls table walk (Some Over) h = h
 
 module _ {W P I A : Type 0} (seen : W → Seen P I A)
-    (w : World P I A) {log : History} {origins : List Origin} {slots : List (Slot W)} {making : List
+    (w : World P I A) {history : History} {origins : List Origin} {slots : List (Slot W)}
+    {making : List
     (Option RunId)} {table : TableRuns} {end : Option End} where
   -- the runs of a request that is over, replayed in its caller's journal, give its own
   takes : (id : ℕ) (walk : Seen P I A) (told : RequestResult) (caller : ℕ) →
-      HasParent (at origins id) (Some caller) → Shown seen w log origins slots making table end →
-      IsOwn w log.events table.finished id walk →
-      Asks w log.events id (IsOver told) → CanTake seen table.finished walk (at slots caller)
+      HasParent (at origins id) (Some caller) → Shown seen w history origins slots making table end
+      →
+      IsOwn w history.events table.finished id walk →
+      Asks w history.events id (IsOver told) → CanTake seen table.finished walk (at slots caller)
   takes id walk told caller par x own asked =
       let y = over-now seen w id told x (Some caller) asked par in
       let p : Position P I A = y.position in
-      let c = caller-of seen w log log id told p x y.gives_so y.there caller y.parent_is in
+      let c = caller-of seen w history history id told p x y.gives_so y.there caller y.parent_is in
       let mine = there-of seen w x id walk.position own.stands in
       let same = same_some (at x.state.requests id) _ _ y.there.at_state mine.at_state in
       let runs : p.runs ≡ walk.position.runs = ap (λ (q : RequestState P I A). q.runs) same in
@@ -137,7 +139,7 @@ module _ {W P I A : Type 0} (seen : W → Seen P I A)
       subst (λ n. In n (numbered_from c.calls.first keys)) (sym c.id_is)
       (at-in (numbered_from c.calls.first keys) c.place (c.calls.first + c.place)
       (at-numbered c.calls.first keys c.place c.below)) in
-      let replays = calls_are_replayed w log.events x.state x.history caller id c.request _
+      let replays = calls_are_replayed w history.events x.state x.history caller id c.request _
       c.at_state (subst (AwaitsCall id) (sym c.shows.is) called) y.there.at_state
       (subst (λ (place : Place P I A). IsWalking place) (sym y.gives_so.is) tt) in
       subst (CanTake seen table.finished walk) (sym c.at_slots) (
@@ -150,27 +152,28 @@ module _ {W P I A : Type 0} (seen : W → Seen P I A)
       )
 
   pub can-take : (id : ℕ) (walk : Seen P I A) (caller : ℕ) → HasParent (at origins id)
-      (Some caller) → ∥ Shown seen w log origins slots making table end ∥₁ →
-      ∥ IsOwn w log.events table.finished id walk ∥₁ →
-      ∥ ((told : RequestResult) × Asks w log.events id (IsOver told)) ∥₁ →
+      (Some caller) → ∥ Shown seen w history origins slots making table end ∥₁ →
+      ∥ IsOwn w history.events table.finished id walk ∥₁ →
+      ∥ ((told : RequestResult) × Asks w history.events id (IsOver told)) ∥₁ →
       CanTake seen table.finished walk (at slots caller)
   can-take id walk caller par shown own over =
       let prop = can_take-prop seen table.finished walk (at slots caller) in
       ∥∥₁_elim shown prop (λ x. ∥∥₁_elim own prop (λ o. ∥∥₁_elim over prop
       (λ a. takes id walk a.0 caller par x o a.1)))
 
-  pub caller-there : (id : ℕ) → ∥ Shown seen w log origins slots making table end ∥₁ →
-      ∥ ((told : RequestResult) × Asks w log.events id (IsOver told)) ∥₁ → id < length origins
+  pub caller-there : (id : ℕ) → ∥ Shown seen w history origins slots making table end ∥₁ →
+      ∥ ((told : RequestResult) × Asks w history.events id (IsOver told)) ∥₁ → id < length origins
   caller-there id shown over =
       ∥∥₁_elim over (λ p q. le_prop p q) (λ a. over-there seen w id a.0 shown ∣ a.1 ∣₁)
 
   module _ {outs : List (Slot W)} (caller : ℕ) (r : IsPassed seen table.finished slots outs caller)
     where
       -- the caller stands as before
-      still-calls : (x : Shown seen w log origins slots making table end) (q : RequestState P I A) →
-          ShowsCalling w x.state (length log.events)
+      still-calls : (x : Shown seen w history origins slots making table end)
+          (q : RequestState P I A) →
+          ShowsCalling w x.state (length history.events)
           (seen r.before.walk) r.before.first r.before.«open» r.before.results.items q →
-          ShowsCalling w x.state (length log.events) (seen r.now.walk) r.now.first r.now.«open»
+          ShowsCalling w x.state (length history.events) (seen r.now.walk) r.now.first r.now.«open»
           r.now.results.items q
       still-calls x q s =
           let t = r.taken in
@@ -190,7 +193,7 @@ module _ {W P I A : Type 0} (seen : W → Seen P I A)
               learnt = subst (ArePartOf (seen r.now.walk).learnt) x.finished t.learnt;
               position = t.position ∙ s.stands.position;
               asked = subst (λ n. 0 < n) (sym t.asked) s.stands.asked;
-              few = subst (λ n. n ≤ length log.events) (sym t.asked) s.stands.few;
+              few = subst (λ n. n ≤ length history.events) (sym t.asked) s.stands.few;
             };
             so_far =
                 subst (λ first. AreSoFar (told first) r.now.results.items r.now.«open»)
@@ -200,10 +203,10 @@ module _ {W P I A : Type 0} (seen : W → Seen P I A)
                 (sym t.open_calls) s.so_far));
           }
 
-      pub passed-shown : Shown seen w log origins slots making table end →
-          Shown seen w log origins outs making table end
+      pub passed-shown : Shown seen w history origins slots making table end →
+          Shown seen w history origins outs making table end
       passed-shown x =
-          let S = ShowsSlot w x.state (length log.events) seen in
+          let S = ShowsSlot w x.state (length history.events) seen in
           let y = Paired-some S slots x.state.requests caller (Calling r.before) x.each r.was in
           record {
             state = x.state;

@@ -16,7 +16,8 @@ use Rattle.std.proofs.Common.{
   subst,
 }
 use Rattle.std.proofs.Math.Bridge.{le_prop}
-use Rattle.std.proofs.Math.Logic.{∥∥₁_elim, ∥∥₁_map₂}
+use Rattle.std.proofs.Math.Logic.{∥∥₁_elim, ∥∥₁_map, ∥∥₁_map₂}
+use Rattle.build_meaning.specs.declared.event.Event.{Event}
 use Rattle.build_meaning.specs.Lists.{at}
 use Rattle.build_meaning.specs.World.{World}
 use Rattle.build_meaning.specs.State.{Place, ready, assigned, waits, done, RequestState, State}
@@ -31,7 +32,7 @@ use Rattle.build_scheduler.specs.declared.slot.Slot.TheVariants.{
 }
 use Rattle.build_scheduler.specs.Numbers.{IsLeast, Numbered}
 use Rattle.build_scheduler.specs.Own.{Seen}
-use Rattle.build_scheduler.specs.Ready.{IsReady, IsLeastReady}
+use Rattle.build_scheduler.specs.Ready.{IsReady, IsLeastReady, IsSomeReady}
 use Rattle.build_scheduler.specs.Shown.{Shown, Indexed, is_ready}
 use Rattle.build_scheduler.specs.Slots.{ShowsSlot}
 use Rattle.build_scheduler.proofs.HistoryFacts.{one_state}
@@ -51,30 +52,34 @@ module _ {W P I A : Type 0} (seen : W → Seen P I A) (w : World P I A) where
   slot-ready s count Done q place h e = absurd
       (let a : ready place ≡ done h.result = sym e ∙ h.is in cc)
 
-  pub listed-of : {log : _} {origins : _} {slots : List (Slot W)} {making : _} {table : _} {end : _}
-      (id : ℕ) → Shown seen w log origins slots making table end → IsReady w log.events id
+  pub listed-of : {history : _} {origins : _} {slots : List (Slot W)} {making : _} {table : _}
+      {end : _}
+      (id : ℕ) → Shown seen w history origins slots making table end → IsReady w history.events id
       → is_ready (at slots id) ≡ true
-  listed-of {log} {origins} {slots} id x r =
+  listed-of {history} {origins} {slots} id x r =
       let e : at x.state.requests id ≡ Some r.request = subst
       (λ (s : State P I A). at s.requests id ≡ Some r.request)
-      (one_state w log.events r.state x.state r.history x.history) r.there in
-      let y = paired-other (ShowsSlot w x.state (length log.events) seen) slots x.state.requests id
+      (one_state w history.events r.state x.state r.history x.history) r.there in
+      let y = paired-other (ShowsSlot w x.state (length history.events) seen) slots x.state.requests
+      id
       r.request x.each e in
-      ap is_ready y.2 ∙ slot-ready x.state (length log.events) y.0 r.request r.place y.1 r.is
+      ap is_ready y.2 ∙ slot-ready x.state (length history.events) y.0 r.request r.place y.1 r.is
 
-  pub of-listed : {log : _} {origins : _} {slots : List (Slot W)} {making : _} {table : _} {end : _}
-      (id : ℕ) → Shown seen w log origins slots making table end → is_ready (at slots id) ≡ true
-      → IsReady w log.events id
-  of-listed {log} {origins} {slots} id x h = go (at slots id) refl h
+  pub of-listed : {history : _} {origins : _} {slots : List (Slot W)} {making : _} {table : _}
+      {end : _}
+      (id : ℕ) → Shown seen w history origins slots making table end → is_ready (at slots id) ≡ true
+      → IsReady w history.events id
+  of-listed {history} {origins} {slots} id x h = go (at slots id) refl h
     where
-      go : (o : Option (Slot W)) → at slots id ≡ o → is_ready o ≡ true → IsReady w log.events id
+      go : (o : Option (Slot W)) → at slots id ≡ o → is_ready o ≡ true → IsReady w history.events id
       go None e h = absurd (cc)
       go (Some (Assigned node)) e h = absurd (cc)
       go (Some (Waiting walk by)) e h = absurd (cc)
       go (Some (Calling calls)) e h = absurd (cc)
       go (Some Done) e h = absurd (cc)
       go (Some (Ready walk answer)) e h =
-          let y = Paired-some (ShowsSlot w x.state (length log.events) seen) slots x.state.requests
+          let y = Paired-some (ShowsSlot w x.state (length history.events) seen) slots
+          x.state.requests
           id (Ready walk answer) x.each e in
           record {
             state = x.state;
@@ -86,17 +91,30 @@ module _ {W P I A : Type 0} (seen : W → Seen P I A) (w : World P I A) where
           }
 
   -- the least of the listed requests is the least that is ready
-  pub least-ready : {log : _} {origins : _} {slots : List (Slot W)} {making : _} {table : _}
+  pub least-ready : {history : _} {origins : _} {slots : List (Slot W)} {making : _} {table : _}
       {end : _} (numbers : Numbered) {waiting : _} (o : Option ℕ)
-      → ∥ Shown seen w log origins slots making table end ∥₁ →
-      ∥ Indexed slots numbers waiting ∥₁ → IsLeast numbers.numbers o → IsLeastReady w log.events o
+      → ∥ Shown seen w history origins slots making table end ∥₁ →
+      ∥ Indexed slots numbers waiting ∥₁ → IsLeast numbers.numbers o
+      → IsLeastReady w history.events o
   least-ready numbers None shown indexed h = λ id r.
       ∥∥₁_elim shown (λ a. absurd a)
       (λ x. ∥∥₁_elim indexed (λ a. absurd a) (λ y. ∥∥₁_elim r (λ a. absurd a) (λ q.
       let a : true ≡ false = sym (listed-of id x q) ∙ (sym (y.listed id) ∙ h id) in cc)))
-  least-ready {log} numbers (Some least) shown indexed h = (
+  least-ready {history} numbers (Some least) shown indexed h = (
     ∥∥₁_map₂ shown indexed (λ x y. of-listed least x (sym (y.listed least) ∙ h.0)),
     λ id r. ∥∥₁_elim shown (λ p q. le_prop p q)
         (λ x. ∥∥₁_elim indexed (λ p q. le_prop p q)
         (λ y. ∥∥₁_elim r (λ p q. le_prop p q) (λ q. h.1 id (y.listed id ∙ listed-of id x q)))),
   )
+
+  -- a request that is listed is ready
+  pub listed-ready : {history : _} {origins : _} {slots : List (Slot W)} {making : _} {table : _}
+      {end : _} (id : ℕ) → ∥ Shown seen w history origins slots making table end ∥₁ →
+      is_ready (at slots id) ≡ true → IsSomeReady w history.events (Some id)
+  listed-ready id shown is = ∥∥₁_map shown (λ x. of-listed id x is)
+
+  -- where the least is ready, one is
+  pub least-some : (events : List Event) (o : Option ℕ) → IsLeastReady w events o →
+      IsSomeReady w events o
+  least-some events None h = h
+  least-some events (Some least) h = h.0

@@ -72,26 +72,27 @@ refused-prop w events id calls (TooDeep keys) = ∥∥₁_prop
 refused-prop w events id calls (TooMany instance) = ∥∥₁_prop
 refused-prop w events id calls Memory = λ p q. refl
 
-module _ {W P I A : Type 0} (seen : W → Seen P I A) (w : World P I A) {log : History}
+module _ {W P I A : Type 0} (seen : W → Seen P I A) (w : World P I A) {history : History}
     {origins : List Origin} {slots : List (Slot W)} {making : List (Option RunId)}
     {table : TableRuns} {end : Option End} (id : ℕ) (walk : W) (calls : List RequestKey) where
-  same-origin : (x : Shown seen w log origins slots making table end)
-      (o : IsOwn w log.events table.finished id (seen walk))
+  same-origin : (x : Shown seen w history origins slots making table end)
+      (o : IsOwn w history.events table.finished id (seen walk))
       → at origins id
       ≡ Some (origin_of (placed o.stands.origin (seen walk).position (assigned o.stands.node)))
   same-origin x o =
       let q = placed o.stands.origin (seen walk).position (assigned o.stands.node) in
       let e : at x.state.requests id ≡ Some q = subst
       (λ (s : State P I A). at s.requests id ≡ Some q)
-      (one_state w log.events o.stands.state x.state o.stands.history x.history) o.stands.there
+      (one_state w history.events o.stands.state x.state o.stands.history x.history) o.stands.there
       in
       ap (λ os. at os id) x.asked ∙ map-at origin_of x.state.requests id q e
 
-  too-deep : (x : Shown seen w log origins slots making table end)
-      → IsOwn w log.events table.finished id (seen walk) → ask_of (seen walk).position ≡ Call calls
+  too-deep : (x : Shown seen w history origins slots making table end)
+      → IsOwn w history.events table.finished id (seen walk)
+      → ask_of (seen walk).position ≡ Call calls
       → AreNested origins → (depth : ℕ) → HasDepth (at origins id) depth → deepest ≤ suc depth →
       (keys : List RequestKey) → AreKeysDown origins id calls keys
-      → IsTooDeep w log.events id calls keys
+      → IsTooDeep w history.events id calls keys
   too-deep x o a v depth d deep keys k =
       let p = (seen walk).position in
       let c = calls-of p.runs p.place calls a in
@@ -100,7 +101,8 @@ module _ {W P I A : Type 0} (seen : W → Seen P I A) (w : World P I A) {log : H
       let r = root-reached origins id
       (origin_of (placed o.stands.origin p (assigned o.stands.node))) calls keys v e
       (omega arith) k in
-      let one : x.state ≡ o.stands.state = one_state w log.events x.state o.stands.state x.history
+      let one : x.state ≡ o.stands.state = one_state w history.events x.state o.stands.state
+      x.history
       o.stands.history in
       let up : length k.up ≡ deepest = r.1 in
       let turned : length (reverse k.up) ≡ length k.up = length-reverse k.up in
@@ -125,44 +127,47 @@ module _ {W P I A : Type 0} (seen : W → Seen P I A) (w : World P I A) {log : H
         many = omega arith;
       }
 
-  deep-fault : (x : Shown seen w log origins slots making table end)
-      → IsOwn w log.events table.finished id (seen walk) → ask_of (seen walk).position ≡ Call calls
+  deep-fault : (x : Shown seen w history origins slots making table end)
+      → IsOwn w history.events table.finished id (seen walk)
+      → ask_of (seen walk).position ≡ Call calls
       → AreNested origins → (depth : ℕ) → HasDepth (at origins id) depth → deepest ≤ suc depth →
       (fault : RequestFault) → IsDeepFault origins id calls fault
-      → IsRefused w log.events id calls fault
+      → IsRefused w history.events id calls fault
   deep-fault x o a v depth d deep (TooDeep keys) k = ∣ too-deep x o a v depth d deep keys k ∣₁
   deep-fault x o a v depth d deep (TooMany instance) k = absurd k
   deep-fault x o a v depth d deep Memory k = tt
 
   -- calls that would be nested too deep
-  pub deep-refused : ∥ Shown seen w log origins slots making table end ∥₁
-      → ∥ IsOwn w log.events table.finished id (seen walk) ∥₁
+  pub deep-refused : ∥ Shown seen w history origins slots making table end ∥₁
+      → ∥ IsOwn w history.events table.finished id (seen walk) ∥₁
       → ask_of (seen walk).position ≡ Call calls → ∥ AreNested origins ∥₁ → (depth : ℕ)
       → HasDepth (at origins id) depth → deepest ≤ suc depth →
       (fault : RequestFault) → IsDeepFault origins id calls fault
-      → IsRefused w log.events id calls fault
+      → IsRefused w history.events id calls fault
   deep-refused shown own a nested depth d deep fault k = ∥∥₁_elim shown
-      (refused-prop w log.events id calls fault)
-      (λ x. ∥∥₁_elim own (refused-prop w log.events id calls fault)
-      (λ o. ∥∥₁_elim nested (refused-prop w log.events id calls fault)
+      (refused-prop w history.events id calls fault)
+      (λ x. ∥∥₁_elim own (refused-prop w history.events id calls fault)
+      (λ o. ∥∥₁_elim nested (refused-prop w history.events id calls fault)
       (λ v. deep-fault x o a v depth d deep fault k)))
 
-  pub origin-there : ∥ Shown seen w log origins slots making table end ∥₁
-      → ∥ IsOwn w log.events table.finished id (seen walk) ∥₁ → id < length origins
+  pub origin-there : ∥ Shown seen w history origins slots making table end ∥₁
+      → ∥ IsOwn w history.events table.finished id (seen walk) ∥₁ → id < length origins
   origin-there shown own = ∥∥₁_elim shown (λ p q. le_prop p q)
       (λ x. ∥∥₁_elim own (λ p q. le_prop p q) (λ o. at-less origins id _ (same-origin x o)))
 
-  too-many : (x : Shown seen w log origins slots making table end)
-      → IsOwn w log.events table.finished id (seen walk) → ask_of (seen walk).position ≡ Call calls
+  too-many : (x : Shown seen w history origins slots making table end)
+      → IsOwn w history.events table.finished id (seen walk)
+      → ask_of (seen walk).position ≡ Call calls
       → (depth : ℕ) → HasDepth (at origins id) depth → suc depth < deepest →
       (instances : List InstanceKey) → AreCounted instances (map instance_asked origins)
       → (instance : InstanceKey) → IsOver instances calls instance
-      → AreTooMany w log.events id calls instance
+      → AreTooMany w history.events id calls instance
   too-many x o a depth d deep instances k instance h =
       let p = (seen walk).position in
       let depth_is : length o.stands.origin.path
       ≡ depth = subst (λ q. HasDepth q depth) (same-origin x o) d in
-      let one : x.state ≡ o.stands.state = one_state w log.events x.state o.stands.state x.history
+      let one : x.state ≡ o.stands.state = one_state w history.events x.state o.stands.state
+      x.history
       o.stands.history in
       record {
         position = p;
@@ -184,13 +189,13 @@ module _ {W P I A : Type 0} (seen : W → Seen P I A) (w : World P I A) {log : H
       }
 
   -- calls with which there would be too many instances
-  pub many-refused : ∥ Shown seen w log origins slots making table end ∥₁
-      → ∥ IsOwn w log.events table.finished id (seen walk) ∥₁
+  pub many-refused : ∥ Shown seen w history origins slots making table end ∥₁
+      → ∥ IsOwn w history.events table.finished id (seen walk) ∥₁
       → ask_of (seen walk).position ≡ Call calls → (depth : ℕ) → HasDepth (at origins id) depth
       → suc depth < deepest →
       (instances : List InstanceKey) → ∥ AreCounted instances (map instance_asked origins) ∥₁
       → (instance : InstanceKey) → IsOver instances calls instance
-      → ∥ AreTooMany w log.events id calls instance ∥₁
+      → ∥ AreTooMany w history.events id calls instance ∥₁
   many-refused shown own a depth d deep instances counted instance h =
       ∥∥₁_elim shown ∥∥₁_prop
       (λ x.

@@ -201,8 +201,8 @@ module _ {P I A : Type 0} (w : World P I A) where
       ∙ after-append events more y.0 t y.2
 
 -- a request that is ready between two runs, and the records that are left to it
-module _ {P I A : Type 0} (w : World P I A) {log : History} (id node : ℕ) {rest : List RunId}
-    (e : EndsAlike w log id node rest) where
+module _ {P I A : Type 0} (w : World P I A) {history : History} (id node : ℕ) {rest : List RunId}
+    (e : EndsAlike w history id node rest) where
   abbrev assigned_request : RequestState P I A
   assigned_request = record {
     origin = e.request.origin;
@@ -243,16 +243,16 @@ module _ {P I A : Type 0} (w : World P I A) {log : History} (id node : ℕ) {res
   uses-step = subst (λ rs. after_all w assigned_state (uses_of_all id rs)
       ≡ Some (with_request assigned_state id last_request)) rest-is by-records.after
 
-  assigned-history : (events : List Event) → events ≡ log.events ++ Assign id node ∷ [] →
+  assigned-history : (events : List Event) → events ≡ history.events ++ Assign id node ∷ [] →
       IsHistory w events assigned_state
   assigned-history events ev =
       subst (λ es. IsHistory w es assigned_state) (sym ev)
-      (after-append w log.events (Assign id node ∷ []) (start w) e.state e.history
+      (after-append w history.events (Assign id node ∷ []) (start w) e.state e.history
       ∙ ap (λ o. and_then o (λ next. after_all w next [])) assign-step)
 
   -- with a node it stands at its end
   pub last-with : (events : List Event) →
-      events ≡ log.events ++ Assign id node ∷ uses_of_all id rest →
+      events ≡ history.events ++ Assign id node ∷ uses_of_all id rest →
       IsWith w events id (record
       { journal = e.last; runs = e.result.runs; place = walking (gives by-records.reply) })
   last-with events ev = record {
@@ -260,7 +260,7 @@ module _ {P I A : Type 0} (w : World P I A) {log : History} (id node : ℕ) {res
     origin = e.request.origin;
     node = node;
     history = subst (λ es. IsHistory w es (with_request assigned_state id last_request)) (sym ev)
-        (after-append w log.events (Assign id node ∷ uses_of_all id rest) (start w) e.state
+        (after-append w history.events (Assign id node ∷ uses_of_all id rest) (start w) e.state
         e.history
         ∙ (ap (λ o. and_then o (λ next. after_all w next (uses_of_all id rest))) assign-step
         ∙ uses-step));
@@ -272,26 +272,27 @@ module _ {P I A : Type 0} (w : World P I A) {log : History} (id node : ℕ) {res
 
 module _ {W P I A : Type 0} (seen : W → Seen P I A) (w : World P I A) where
   -- a request with a node goes on by some events of its own, and is in no other body then
-  shown-many : {log after : History} {origins : List Origin} {slots : List (Slot W)}
+  shown-many : {history after : History} {origins : List Origin} {slots : List (Slot W)}
       {making : List (Option RunId)}
       {table : TableRuns} {end : Option End} (more : List Event) (id node : ℕ) (o : Asked)
       (p r : Position P I A)
-      (x : Shown seen w log origins slots making table end) →
+      (x : Shown seen w history origins slots making table end) →
       at x.state.requests id ≡ Some (placed o p (assigned node)) →
       at slots id ≡ Some (Assigned node) → run_in r.place ≡ run_in p.place →
       owed_in r.place ≡ owed_in p.place →
       after_all w x.state more ≡ Some (with_request x.state id (placed o r (assigned node))) →
-      after.events ≡ log.events ++ more → owed_by x.state.requests ≤ after.room →
+      after.events ≡ history.events ++ more → owed_by x.state.requests ≤ after.room →
       Shown seen w after origins slots making table end
-  shown-many {log} {after} {origins} {slots} {making} {table} {end} more id node o p r x e sl run
+  shown-many {history} {after} {origins} {slots} {making} {table} {end} more id node o p r x e sl
+      run
       owes st ev room =
       let q : RequestState P I A = placed o p (assigned node) in
       let z : RequestState P I A = placed o r (assigned node) in
       let t : State P I A = with_request x.state id z in
-      let count : length log.events ≤ length after.events =
-      (let k : length after.events ≡ length (log.events ++ more) = ap length ev in
-      let h : length (log.events ++ more) ≡ length log.events + length more =
-      length-append log.events more in omega arith) in
+      let count : length history.events ≤ length after.events =
+      (let k : length after.events ≡ length (history.events ++ more) = ap length ev in
+      let h : length (history.events ++ more) ≡ length history.events + length more =
+      length-append history.events more in omega arith) in
       let alike : (b : RequestState P I A) → Alike w x.state t b = λ b. record {
         begun = λ run body go by h g. g;
         told = λ keys ids y go h. map-alike _ _ ids (result-put x.state.requests id q z e refl);
@@ -299,15 +300,17 @@ module _ {W P I A : Type 0} (seen : W → Seen P I A) (w : World P I A) where
       record {
         state = t;
         history = subst (λ es. IsHistory w es t) (sym ev)
-            (after-append w log.events more (start w) x.state x.history ∙ st);
+            (after-append w history.events more (start w) x.state x.history ∙ st);
         asked = x.asked ∙ sym (map-put origin_of x.state.requests id q z e refl);
         rooted = x.rooted;
         each = subst (λ (xs : List (Slot W)). Paired (ShowsSlot w t (length after.events) seen) xs
             t.requests) (put-there slots id (Assigned node) sl)
-            (paired-puts (ShowsSlot w x.state (length log.events) seen)
+            (paired-puts (ShowsSlot w x.state (length history.events) seen)
             (ShowsSlot w t (length after.events) seen) slots x.state.requests id (Assigned node) z
-            (λ n u v d f h. slot-later w seen x.state t (length log.events) (length after.events)
-            (later-same seen w x.state t (length log.events) (length after.events) refl count) u v
+            (λ n u v d f h. slot-later w seen x.state t (length history.events)
+            (length after.events)
+            (later-same seen w x.state t (length history.events) (length after.events) refl count) u
+            v
             (alike v) h)
             (record { place = r.place; is = refl }) x.each);
         bodies = x.bodies ∙ sym (map-put making_of x.state.requests id q z e run);
@@ -319,21 +322,21 @@ module _ {W P I A : Type 0} (seen : W → Seen P I A) (w : World P I A) where
       }
 
   -- after its Assign the request may use the records that are left to it: its slot is out
-  pub record Uses {log : History} {origins : List Origin} {slots : List (Slot W)}
+  pub record Uses {history : History} {origins : List Origin} {slots : List (Slot W)}
       {making : List (Option RunId)} {table : TableRuns} {end : Option End}
-      (x : Shown seen w log origins slots making table end) (id node : ℕ) {before : History}
+      (x : Shown seen w history origins slots making table end) (id node : ℕ) {before : History}
       {rest : List RunId} (e : EndsAlike w before id node rest) : Type 0 where
     pub there : at x.state.requests id ≡ Some (assigned_request w id node e)
     pub steps : after_all w x.state
         (uses_of_all id rest) ≡ Some (with_request x.state id (last_request w id node e))
     pub out : at slots id ≡ Some (Assigned node)
 
-  pub uses-go : {log before : History} {origins : List Origin} {slots : List (Slot W)}
+  pub uses-go : {history before : History} {origins : List Origin} {slots : List (Slot W)}
       {making : List (Option RunId)} {table : TableRuns} {end : Option End}
-      (id node : ℕ) {rest : List RunId} (e : EndsAlike w log id node rest) →
-      before.events ≡ log.events ++ Assign id node ∷ [] →
+      (id node : ℕ) {rest : List RunId} (e : EndsAlike w history id node rest) →
+      before.events ≡ history.events ++ Assign id node ∷ [] →
       (x : Shown seen w before origins slots making table end) → Uses x id node e
-  uses-go {log} {before} {slots = slots} id node {rest} e ev x =
+  uses-go {history} {before} {slots = slots} id node {rest} e ev x =
       let s : State P I A = assigned_state w id node e in
       let q : RequestState P I A = assigned_request w id node e in
       let same : s ≡ x.state =
@@ -365,15 +368,16 @@ module _ {W P I A : Type 0} (seen : W → Seen P I A) (w : World P I A) where
       record { there = at_q; steps = steps; out = c.at_slots ∙ ap (λ m. Some (Assigned m)) (sym n) }
 
   -- it uses them
-  pub uses-shown : {log before after : History} {origins : List Origin} {slots : List (Slot W)}
+  pub uses-shown : {history before after : History} {origins : List Origin} {slots : List (Slot W)}
       {making : List (Option RunId)}
       {table : TableRuns} {end : Option End} (id node : ℕ) {rest : List RunId}
-      (e : EndsAlike w log id node rest) →
-      before.events ≡ log.events ++ Assign id node ∷ [] → log.room ≡ before.room + 1 →
+      (e : EndsAlike w history id node rest) →
+      before.events ≡ history.events ++ Assign id node ∷ [] → history.room ≡ before.room + 1 →
       after.events ≡ before.events ++ uses_of_all id rest → before.room ≡ after.room + length rest →
       Shown seen w before origins slots making table end →
       Shown seen w after origins slots making table end
-  uses-shown {log} {before} {after} {slots = slots} id node {rest} e ev room more_ev more_room x =
+  uses-shown {history} {before} {after} {slots = slots} id node {rest} e ev room more_ev more_room x
+      =
       let s : State P I A = assigned_state w id node e in
       let q : RequestState P I A = assigned_request w id node e in
       let same : s ≡ x.state =
@@ -397,14 +401,14 @@ module _ {W P I A : Type 0} (seen : W → Seen P I A) (w : World P I A) where
       ap (λ (t : State P I A). owed_by t.requests) (sym same) in
       shown-many (uses_of_all id rest) id node e.request.origin p r x u.there u.out refl refl
       u.steps more_ev
-      (let spare : owed_by e.state.requests + length rest ≤ log.room = e.spare in omega arith)
+      (let spare : owed_by e.state.requests + length rest ≤ history.room = e.spare in omega arith)
 
   -- and no tool meanwhile
-  pub uses-behind : {log before : History} (after : History) {origins : List Origin}
+  pub uses-behind : {history before : History} (after : History) {origins : List Origin}
       {slots : List (Slot W)} {making : List (Option RunId)}
       {table : TableRuns} {end : Option End} (id node : ℕ) {rest : List RunId}
-      (e : EndsAlike w log id node rest) →
-      before.events ≡ log.events ++ Assign id node ∷ [] →
+      (e : EndsAlike w history id node rest) →
+      before.events ≡ history.events ++ Assign id node ∷ [] →
       after.events ≡ before.events ++ uses_of_all id rest →
       Shown seen w before origins slots making table end → AreBehind seen w before.events slots →
       AreBehind seen w after.events slots
@@ -418,10 +422,10 @@ module _ {W P I A : Type 0} (seen : W → Seen P I A) (w : World P I A) where
       (last_request w id node e) x.history u.steps later more_ev u.out behind
 
 -- a walk that stands at that end is the request's own
-module _ {W P I A : Type 0} (seen : W → Seen P I A) (w : World P I A) {log : History}
-    (id node : ℕ) {rest : List RunId} (e : EndsAlike w log id node rest) where
+module _ {W P I A : Type 0} (seen : W → Seen P I A) (w : World P I A) {history : History}
+    (id node : ℕ) {rest : List RunId} (e : EndsAlike w history id node rest) where
   pub ends-own : (events : List Event) (table : Records) (reply : Reply) (walk : W) →
-      events ≡ log.events ++ Assign id node ∷ uses_of_all id rest →
+      events ≡ history.events ++ Assign id node ∷ uses_of_all id rest →
       result_of reply e.result.runs ≡ e.result →
       seen walk ≡ record {
         world = w;
@@ -442,9 +446,9 @@ module _ {W P I A : Type 0} (seen : W → Seen P I A) (w : World P I A) {log : H
         runs = e.result.runs;
         place = walking (gives r);
       })) same (last-with w id node e events ev) in
-      let count : length events ≡ length log.events + length
+      let count : length events ≡ length history.events + length
       (Assign id node ∷ uses_of_all id rest) =
-      ap length ev ∙ length-append log.events (Assign id node ∷ uses_of_all id rest) in
+      ap length ev ∙ length-append history.events (Assign id node ∷ uses_of_all id rest) in
       let more : length (Assign id node ∷ uses_of_all id rest) ≡ suc
       (length (uses_of_all id rest)) =
       refl in
@@ -461,13 +465,13 @@ module _ {W P I A : Type 0} (seen : W → Seen P I A) (w : World P I A) {log : H
         few = few;
       })
 
-module _ {W P I A : Type 0} (seen : W → Seen P I A) (w : World P I A) {log : History}
+module _ {W P I A : Type 0} (seen : W → Seen P I A) (w : World P I A) {history : History}
     {origins : List Origin} {slots : List (Slot W)}
     {making : List (Option RunId)} {table : TableRuns} {end : Option End}
-    (x : Shown seen w log origins slots making table end) where
+    (x : Shown seen w history origins slots making table end) where
   -- the slot of a caller with an empty journal
   nothing-known : (slot : Slot W) (q : RequestState P I A) →
-      ShowsSlot w x.state (length log.events) seen slot q →
+      ShowsSlot w x.state (length history.events) seen slot q →
       KnowsNothing seen (Some slot) → q.journal ≡ []
   nothing-known (Ready walk answer) q s h = absurd h
   nothing-known (Assigned node) q s h = absurd h
@@ -488,7 +492,7 @@ module _ {W P I A : Type 0} (seen : W → Seen P I A) (w : World P I A) {log : H
     pub slot : Slot W
     pub there : at x.state.requests c.caller ≡ Some by
     pub at_slot : at slots c.caller ≡ Some slot
-    pub shows : ShowsSlot w x.state (length log.events) seen slot by
+    pub shows : ShowsSlot w x.state (length history.events) seen slot by
     pub law : EndsAs w x.state.table by.journal q.origin.key q.journal q.runs q.status
     pub parent : q.origin.parent ≡ Some c.caller
 
@@ -498,12 +502,12 @@ module _ {W P I A : Type 0} (seen : W → Seen P I A) (w : World P I A) {log : H
       let o : c.origin ≡ origin_of q = own-origin id q e c.origin c.own in
       let parent : q.origin.parent ≡ Some c.caller =
       ap (λ (a : Origin). a.parent) (sym o) ∙ c.by in
-      let k = kindred w log.events x.state x.history in
+      let k = kindred w history.events x.state x.history in
       let u = k.family.up id (kin_of q) (kins-at x.state.requests id q e) unanswered c.caller
       parent in
       let v = at-kins x.state.requests c.caller u.0 u.2 in
       let calls = awaits-of v.0.status id u.1 (ap (λ (a : Kin). a.calls) v.2 ∙ u.3) u.4 in
-      let s = paired-other (ShowsSlot w x.state (length log.events) seen) slots x.state.requests
+      let s = paired-other (ShowsSlot w x.state (length history.events) seen) slots x.state.requests
       c.caller v.0 x.each v.1 in
       record {
         by = v.0;
@@ -511,7 +515,8 @@ module _ {W P I A : Type 0} (seen : W → Seen P I A) (w : World P I A) {log : H
         there = v.1;
         at_slot = s.2;
         shows = s.1;
-        law = calls_go_by_the_table w log.events x.state x.history c.caller id v.0 q v.1 calls e;
+        law = calls_go_by_the_table w history.events x.state x.history c.caller id v.0 q v.1 calls
+            e;
         parent = parent;
       }
 
@@ -535,7 +540,7 @@ module _ {W P I A : Type 0} (seen : W → Seen P I A) (w : World P I A) {log : H
 
   -- a request that is over is kept
   pub kept-of : (id : ℕ) (walk : W) (told : RequestResult) →
-      IsOwn w log.events table.finished id (seen walk) →
+      IsOwn w history.events table.finished id (seen walk) →
       ask_of (seen walk).position ≡ IsOver told → (c : IsCalled origins id) →
       (kept : Kept W) → kept.id ≡ id →
       kept.result ≡ told → seen kept.walk ≡ record
@@ -587,7 +592,7 @@ module _ {W P I A : Type 0} (seen : W → Seen P I A) (w : World P I A) {log : H
 
   -- a ready request in no body, and what its walk has used
   used-so : (id : ℕ) (walk : W) (answer : Answer) (q : RequestState P I A) (y : Walk P I A) →
-      ShowsReady w x.state (length log.events) (seen walk) answer q →
+      ShowsReady w x.state (length history.events) (seen walk) answer q →
       q.status ≡ ready (walking y) →
       length (seen walk).position.runs + uses_one answer ≡ length q.runs
   used-so id walk answer q y r st =
@@ -664,7 +669,7 @@ module _ {W P I A : Type 0} (seen : W → Seen P I A) (w : World P I A) {log : H
       ∙ its in
       elim either [
         | inl plain ↦
-            let y = plain_requests_give_alike w log.events x.state x.history k.origin.key
+            let y = plain_requests_give_alike w history.events x.state x.history k.origin.key
             (k.plain plain) k.first first k.last kept.result its in
             record {
               last = y.0;
@@ -702,9 +707,9 @@ module _ {W P I A : Type 0} (seen : W → Seen P I A) (w : World P I A) {log : H
         last ≡ (seen kept.walk).position.journal
 
   ready-slot : (slot : Slot W) (q : RequestState P I A) (place : Place P I A) →
-      ShowsSlot w x.state (length log.events) seen slot q → q.status ≡ ready place →
+      ShowsSlot w x.state (length history.events) seen slot q → q.status ≡ ready place →
       (walk : W) × (answer : Answer) × (slot ≡ Ready walk answer) × ShowsReady w x.state
-      (length log.events) (seen walk) answer q
+      (length history.events) (seen walk) answer q
   ready-slot (Ready walk answer) q place s st = (walk, answer, refl, s)
   ready-slot (Assigned node) q place s st =
       absurd (let a : ready place ≡ assigned node s.place = sym st ∙ s.is in cc)
@@ -716,12 +721,12 @@ module _ {W P I A : Type 0} (seen : W → Seen P I A) (w : World P I A) {log : H
   leaves-so : (id : ℕ) (walk : W) (answer : Answer) (q : RequestState P I A) (y : Walk P I A)
       (last : Journal) (result : RequestResult) (rest : List RunId) →
       at x.state.requests id ≡ Some q →
-      ShowsReady w x.state (length log.events) (seen walk) answer q →
+      ShowsReady w x.state (length history.events) (seen walk) answer q →
       q.status ≡ ready (walking y) → result.runs ≡ q.runs ++ rest →
       replay_all x.state.table rest q.journal ≡ Some last →
       LeavesJournal seen x.state.table (Some (Ready walk answer)) result.runs last
   leaves-so id walk answer q y last result rest e r st runs_so replays =
-      let l = all-lawful w log.events (start w) x.state (start-lawful w) x.history in
+      let l = all-lawful w history.events (start w) x.state (start-lawful w) x.history in
       let place : r.position.place ≡ walking y =
       (let h : ready r.position.place ≡ ready (walking y) = sym
       (ap (λ (a : RequestState P I A). a.status) r.is) ∙ st in cc) in
@@ -738,15 +743,15 @@ module _ {W P I A : Type 0} (seen : W → Seen P I A) (w : World P I A) {log : H
         lawful = lawful;
       })
 
-  pub alike-end : (id : ℕ) → IsReady w log.events id → (all : KeptEnds W) →
+  pub alike-end : (id : ℕ) → IsReady w history.events id → (all : KeptEnds W) →
       AreKept seen w table.finished origins all.instances.items → (kept : Kept W) →
       Serves seen slots origins making all id kept → Alike_end id kept
   alike-end id r all each kept s =
       let q : RequestState P I A = r.request in
       let e : at x.state.requests id ≡ Some q =
       subst (λ (t : State P I A). at t.requests id ≡ Some q)
-      (one_state w log.events r.state x.state r.history x.history) r.there in
-      let y = paired-other (ShowsSlot w x.state (length log.events) seen) slots x.state.requests
+      (one_state w history.events r.state x.state r.history x.history) r.there in
+      let y = paired-other (ShowsSlot w x.state (length history.events) seen) slots x.state.requests
       id q x.each e in
       let z = ready-slot y.0 q r.place y.1 r.is in
       let free : run_in r.place ≡ None =

@@ -55,12 +55,12 @@ unlisted-there {slots = slots} {numbers = numbers} id node e indexed =
           let b : unready slots ≤ numbers.room = y.room in omega arith),
     ))
 
-module _ {W P I A : Type 0} (seen : W → Seen P I A) (w : World P I A) {log : History}
+module _ {W P I A : Type 0} (seen : W → Seen P I A) (w : World P I A) {history : History}
     {origins : List Origin} {slots : List (Slot W)} {making : List (Option RunId)}
     {table : TableRuns} {end : Option End} (id : ℕ) (walk : W) (answer : Answer) where
   -- the slot of a request whose walk is out
-  pub node-there : ∥ Shown seen w log origins slots making table end ∥₁ →
-      ∥ IsOut w log.events table.finished id (seen walk) answer ∥₁ → IsWithNode (at slots id)
+  pub node-there : ∥ Shown seen w history origins slots making table end ∥₁ →
+      ∥ IsOut w history.events table.finished id (seen walk) answer ∥₁ → IsWithNode (at slots id)
   node-there shown out =
       ∥∥₁_elim shown (with_node-prop (at slots id)) (λ x.
       ∥∥₁_elim out (with_node-prop (at slots id)) (λ o.
@@ -68,8 +68,9 @@ module _ {W P I A : Type 0} (seen : W → Seen P I A) (w : World P I A) {log : H
 
   module _ (node : ℕ) (e : at slots id ≡ Some (Assigned node)) where
     -- the request is with the node of its slot
-    pub assigned-to : Shown seen w log origins slots making table end →
-        IsOut w log.events table.finished id (seen walk) answer → IsAssignedTo w log.events id node
+    pub assigned-to : Shown seen w history origins slots making table end →
+        IsOut w history.events table.finished id (seen walk) answer
+        → IsAssignedTo w history.events id node
     assigned-to x o =
         let h = there-of seen w x id o.next o.stands in
         let same : h.node ≡ node = same_node (at slots id) node h.node e h.at_slots in
@@ -82,8 +83,8 @@ module _ {W P I A : Type 0} (seen : W → Seen P I A) (w : World P I A) {log : H
           is = ap (λ (n : ℕ). assigned n o.next.place) same;
         }
 
-    retire-step : (x : Shown seen w log origins slots making table end)
-        (o : IsOut w log.events table.finished id (seen walk) answer)
+    retire-step : (x : Shown seen w history origins slots making table end)
+        (o : IsOut w history.events table.finished id (seen walk) answer)
         (h : There slots x.state id o.next) →
         step w x.state (Retire id node)
         ≡ Some (with_request x.state id (placed h.origin o.next ready))
@@ -95,18 +96,18 @@ module _ {W P I A : Type 0} (seen : W → Seen P I A) (w : World P I A) {log : H
 
     -- it is ready again, with its walk
     pub retired-shown : {after : History} {outs : List (Slot W)} →
-        after.events ≡ log.events ++ Retire id node ∷ [] → after.room ≡ log.room + 1 →
+        after.events ≡ history.events ++ Retire id node ∷ [] → after.room ≡ history.room + 1 →
         outs ≡ put slots id (Ready walk answer) →
-        Shown seen w log origins slots making table end →
-        IsOut w log.events table.finished id (seen walk) answer →
+        Shown seen w history origins slots making table end →
+        IsOut w history.events table.finished id (seen walk) answer →
         Shown seen w after origins outs making table end
     retired-shown {after} ev room out x o =
         let h = there-of seen w x id o.next o.stands in
         let q : RequestState P I A = placed h.origin o.next (assigned h.node) in
         let z : RequestState P I A = placed h.origin o.next ready in
         let t : State P I A = with_request x.state id z in
-        let count : length after.events ≡ suc (length log.events) =
-        one-more log.events after.events (Retire id node) ev in
+        let count : length after.events ≡ suc (length history.events) =
+        one-more history.events after.events (Retire id node) ev in
         subst (λ (xs : List (Slot W)). Shown seen w after origins xs making table end) (sym out)
         (shown-put seen w (Retire id node) id q z t (Ready walk answer) x h.at_state
         (retire-step x o h) refl refl refl refl refl ev (omega arith)
@@ -124,7 +125,7 @@ module _ {W P I A : Type 0} (seen : W → Seen P I A) (w : World P I A) {log : H
             goes = ap (λ records. answered w records (seen walk).position answer)
                 (sym x.finished) ∙ o.goes;
             turn = o.turn;
-            few = let f : (seen walk).asked < length log.events = o.few in omega arith;
+            few = let f : (seen walk).asked < length history.events = o.few in omega arith;
           };
           is = refl;
         }))

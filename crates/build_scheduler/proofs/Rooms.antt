@@ -34,11 +34,11 @@ use Rattle.build_scheduler.specs.Requests.{HasSpare}
 use Rattle.build_scheduler.specs.Shown.{Shown, Indexed, HaveNumbers, AreRooted, unready, numbers_of}
 use Rattle.build_scheduler.specs.Slots.{owed_by, ShowsSlot}
 
-module _ {W P I A : Type 0} (seen : W → Seen P I A) (w : World P I A) {log after : History}
+module _ {W P I A : Type 0} (seen : W → Seen P I A) (w : World P I A) {history after : History}
     {origins os : List Origin} {slots ss : List (Slot W)} {making ms : List (Option RunId)}
-    {table : TableRuns} {end : Option End} (ev : after.events ≡ log.events) where
-  pub room-shown : log.room ≤ after.room → os ≡ origins → ss ≡ slots → ms ≡ making
-      → Shown seen w log origins slots making table end → Shown seen w after os ss ms table end
+    {table : TableRuns} {end : Option End} (ev : after.events ≡ history.events) where
+  pub room-shown : history.room ≤ after.room → os ≡ origins → ss ≡ slots → ms ≡ making
+      → Shown seen w history origins slots making table end → Shown seen w after os ss ms table end
   room-shown room o s m x = record {
     state = x.state;
     history = subst (λ es. IsHistory w es x.state) (sym ev) x.history;
@@ -52,7 +52,7 @@ module _ {W P I A : Type 0} (seen : W → Seen P I A) (w : World P I A) {log aft
     bodies = m ∙ x.bodies;
     finished = x.finished;
     begun = x.begun;
-    room = let r : owed_by x.state.requests ≤ log.room = x.room in omega arith;
+    room = let r : owed_by x.state.requests ≤ history.room = x.room in omega arith;
     ends = x.ends;
   }
 
@@ -61,15 +61,16 @@ pub room-stops : {P I A : Type 0} (w : World P I A) {events es : List Event} (en
 room-stops w end ev h = subst (λ es. ∥ ShowsStop w es end ∥₁) (sym ev) h
 
 -- so many events more than are owed
-pub spare-of : {W P I A : Type 0} (seen : W → Seen P I A) (w : World P I A) {log after : History}
+pub spare-of : {W P I A : Type 0} (seen : W → Seen P I A) (w : World P I A)
+    {history after : History}
     {origins : List Origin} {slots : List (Slot W)} {making : List (Option RunId)}
-    {table : TableRuns} {end : Option End} → after.events ≡ log.events → (count more : ℕ) →
-    after.room ≡ log.room + more → more ≡ 2 + 2 * count
-    → Shown seen w log origins slots making table end → HasSpare w after (2 + 2 * count)
-spare-of seen w {log} ev count more room m x = record {
+    {table : TableRuns} {end : Option End} → after.events ≡ history.events → (count more : ℕ) →
+    after.room ≡ history.room + more → more ≡ 2 + 2 * count
+    → Shown seen w history origins slots making table end → HasSpare w after (2 + 2 * count)
+spare-of seen w {history} ev count more room m x = record {
   state = x.state;
   history = subst (λ es. IsHistory w es x.state) (sym ev) x.history;
-  spare = let r : owed_by x.state.requests ≤ log.room = x.room in omega arith;
+  spare = let r : owed_by x.state.requests ≤ history.room = x.room in omega arith;
 }
 
 pub room-indexed : {W : Type 0} {slots ss : List (Slot W)} {ready next : Numbered}

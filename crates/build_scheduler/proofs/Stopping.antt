@@ -42,13 +42,13 @@ module _ {P I A : Type 0} (w : World P I A) (events : List Event) where
   stop-ends s (TooMany instance) h = tt
   stop-ends s NoMemory h = tt
 
-module _ {W P I A : Type 0} (seen : W → Seen P I A) (w : World P I A) {log : History}
+module _ {W P I A : Type 0} (seen : W → Seen P I A) (w : World P I A) {history : History}
     {origins : List Origin} {slots : List (Slot W)} {making : List (Option RunId)}
     {table : TableRuns} where
   -- the core shows the same state after it is stopped
-  pub stopped-shown : {end : Option End} (told : End) → IsStop w log.events told
-      → Shown seen w log origins slots making table end
-      → Shown seen w log origins slots making table (Some told)
+  pub stopped-shown : {end : Option End} (told : End) → IsStop w history.events told
+      → Shown seen w history origins slots making table end
+      → Shown seen w history origins slots making table (Some told)
   stopped-shown told h x = record {
     state = x.state;
     history = x.history;
@@ -59,15 +59,15 @@ module _ {W P I A : Type 0} (seen : W → Seen P I A) (w : World P I A) {log : H
     finished = x.finished;
     begun = x.begun;
     room = x.room;
-    ends = stop-ends w log.events x.state told h;
+    ends = stop-ends w history.events x.state told h;
   }
 
   -- what is told of the end
-  pub end-told : (end : Option End) → ∥ Shown seen w log origins slots making table end ∥₁
-      → ∥ ShowsStop w log.events end ∥₁ → IsEnd w log.events end
+  pub end-told : (end : Option End) → ∥ Shown seen w history origins slots making table end ∥₁
+      → ∥ ShowsStop w history.events end ∥₁ → IsEnd w history.events end
   end-told None shown h = λ result r. ∥∥₁_elim shown (λ p q. absurd p)
       (λ x. ∥∥₁_elim r (λ p q. absurd p) (λ r.
-      let one = one_state w log.events r.state x.state r.history x.history in
+      let one = one_state w history.events r.state x.state r.history x.history in
       x.ends r.ends.root
       (subst (λ (s : State P I A). at s.requests 0 ≡ Some r.ends.root) one r.ends.there)
       (subst IsOver (sym r.ends.over) tt)))

@@ -117,10 +117,10 @@ use Rattle.build_scheduler.proofs.OwnWalks.{there-of}
 use Rattle.build_scheduler.proofs.SlotNumbers.{not-equal, at-cases, unready-put, at-get, put-set}
 use Rattle.build_scheduler.proofs.SlotsStay.{map-alike}
 
-module _ {W P I A : Type 0} (seen : W → Seen P I A) (w : World P I A) {log : History}
+module _ {W P I A : Type 0} (seen : W → Seen P I A) (w : World P I A) {history : History}
     {origins : List Origin} {slots : List (Slot W)} {making : List (Option RunId)}
     {table : TableRuns} {end : Option End} {ready_ones : Numbered} {waiting_ones : List Numbered}
-    (x : Shown seen w log origins slots making table end)
+    (x : Shown seen w history origins slots making table end)
     (y : Indexed slots ready_ones waiting_ones) (id : ℕ) (run : RunId) (by : ℕ)
     (begun : request_of table.begun run ≡ Some by) (open_run : found table.finished run ≡ None)
   where
@@ -129,9 +129,10 @@ module _ {W P I A : Type 0} (seen : W → Seen P I A) (w : World P I A) {log : H
 
     -- the claimed run would be needed by nobody who is found
     pub circle-none : TellsDependent origins waiting_ones id by None → (runs : List RunId)
-        → ClosesCycle w log.events id run runs → ⊥
+        → ClosesCycle w history.events id run runs → ⊥
     circle-none n runs c =
-        let one : c.state ≡ x.state = one_state w log.events c.state x.state c.history x.history in
+        let one : c.state ≡ x.state = one_state w history.events c.state x.state c.history x.history
+        in
         apart-open seen w x y id c.node c.request (walking (wants c.site run c.body c.go))
         (subst (λ (s : State P I A). at s.requests id ≡ Some c.request) one c.there) c.wants_so run
         c.body c.go by begun open_run n.0 n.1 n.2 c.between
@@ -140,10 +141,12 @@ module _ {W P I A : Type 0} (seen : W → Seen P I A) (w : World P I A) {log : H
         (waiting w s id c.request run c.body c.go) run
         c.between run) one c.closes)
 
-    pub would-none : TellsDependent origins waiting_ones id by None → WouldClose w log.events id run
+    pub would-none : TellsDependent origins waiting_ones id by None
+        → WouldClose w history.events id run
         → ⊥
     would-none n c =
-        let one : c.state ≡ x.state = one_state w log.events c.state x.state c.history x.history in
+        let one : c.state ≡ x.state = one_state w history.events c.state x.state c.history x.history
+        in
         apart-open seen w x y id c.node c.request c.place
         (subst (λ (s : State P I A). at s.requests id ≡ Some c.request) one c.there) c.with_node run
         c.body c.go by begun open_run n.0 n.1 n.2 c.between
@@ -152,14 +155,14 @@ module _ {W P I A : Type 0} (seen : W → Seen P I A) (w : World P I A) {log : H
         (waiting w s id c.request run c.body c.go) run
         c.between run) one c.closes)
 
-    pub circle-some : (walk : W) → IsOwn w log.events table.finished id (seen walk)
+    pub circle-some : (walk : W) → IsOwn w history.events table.finished id (seen walk)
         → ask_of (seen walk).position ≡ Want run → (way : Dependent)
         → TellsDependent origins waiting_ones id by (Some way) → (runs : List RunId) →
         IsCycleOver way.dependents.requests.keys way.dependents.needs.items making way.place run
         runs
-        → ClosesCycle w log.events id run runs
+        → ClosesCycle w history.events id run runs
     circle-some walk o a way n runs r =
-        let c = claims-of seen w log log id walk run x o a in
+        let c = claims-of seen w history history id walk run x o a in
         let q : RequestState P I A = placed c.there.origin (seen walk).position
         (assigned c.there.node) in
         let st : q.status ≡ assigned c.there.node
@@ -190,10 +193,10 @@ module _ {W P I A : Type 0} (seen : W → Seen P I A) (w : World P I A) {log : H
         }
 
     -- a request with a node, as the claims of any run see it
-    module _ (v : IsAssigned w log.events id) where
+    module _ (v : IsAssigned w history.events id) where
       here : at x.state.requests id ≡ Some v.request
       here = subst (λ (s : State P I A). at s.requests id ≡ Some v.request)
-          (one_state w log.events v.state x.state v.history x.history) v.there
+          (one_state w history.events v.state x.state v.history x.history) v.there
 
       pub ways-making : (first : ℕ) (requests over : List ℕ)
           → AreFound origins waiting_ones first requests over → caller_at origins id ≡ Some first
@@ -227,7 +230,7 @@ module _ {W P I A : Type 0} (seen : W → Seen P I A) (w : World P I A) {log : H
           (s.2 [] [], s.1.go)
 
       pub would-some : (way : Dependent) → TellsDependent origins waiting_ones id by (Some way)
-          → WouldClose w log.events id run
+          → WouldClose w history.events id run
       would-some way n =
           let keys : List ℕ = way.dependents.requests.keys in
           let over : List ℕ = way.dependents.needs.items in
@@ -283,54 +286,57 @@ callers-there origins nested id caller e = ∥∥₁_elim nested (λ p q. le_pro
     (v id y.0 y.1).1 in
     at-less origins caller z.0 z.1)
 
-module _ {W P I A : Type 0} (seen : W → Seen P I A) (w : World P I A) {log : History}
+module _ {W P I A : Type 0} (seen : W → Seen P I A) (w : World P I A) {history : History}
     {origins : List Origin} {slots : List (Slot W)} {making : List (Option RunId)}
     {table : TableRuns} {end : Option End} where
-  slots-origins : Shown seen w log origins slots making table end → length slots ≡ length origins
+  slots-origins : Shown seen w history origins slots making table end
+      → length slots ≡ length origins
   slots-origins x =
       let a : length slots ≡ length x.state.requests = Paired-length
-      (ShowsSlot w x.state (length log.events) seen) slots x.state.requests x.each in
+      (ShowsSlot w x.state (length history.events) seen) slots x.state.requests x.each in
       let b : length origins ≡ length x.state.requests = ap length x.asked
       ∙ length-map x.state.requests origin_of in a ∙ sym b
 
   -- a request with a node has an origin
-  pub assigned-there : (id : ℕ) → ∥ Shown seen w log origins slots making table end ∥₁
-      → ∥ IsAssigned w log.events id ∥₁ → id < length origins
+  pub assigned-there : (id : ℕ) → ∥ Shown seen w history origins slots making table end ∥₁
+      → ∥ IsAssigned w history.events id ∥₁ → id < length origins
   assigned-there id shown v = ∥∥₁_elim shown (λ p q. le_prop p q)
       (λ x. ∥∥₁_elim v (λ p q. le_prop p q) (λ v.
       let e = subst (λ (s : State P I A). at s.requests id ≡ Some v.request)
-      (one_state w log.events v.state x.state v.history x.history) v.there in
+      (one_state w history.events v.state x.state v.history x.history) v.there in
       let l : id < length x.state.requests = at-less x.state.requests id v.request e in
       let b : length origins ≡ length x.state.requests = ap length x.asked
       ∙ length-map x.state.requests origin_of in omega arith))
 
   -- a run that nobody has begun, or that is finished, closes none
-  pub absent-open : (id : ℕ) (run : RunId) → ∥ Shown seen w log origins slots making table end ∥₁
+  pub absent-open : (id : ℕ) (run : RunId)
+      → ∥ Shown seen w history origins slots making table end ∥₁
       → found table.finished run ≡ None → request_of table.begun run ≡ None
-      → ∥ WouldClose w log.events id run ∥₁ → ⊥
+      → ∥ WouldClose w history.events id run ∥₁ → ⊥
   absent-open id run shown f u c = ∥∥₁_elim shown (λ p q. absurd p)
       (λ x. ∥∥₁_elim c (λ p q. absurd p) (λ c.
       clash (is_begun run x.state.begun)
       (subst (λ (s : State P I A). is_begun run s.begun ≡ true)
-      (one_state w log.events c.state x.state c.history x.history) c.begun)
+      (one_state w history.events c.state x.state c.history x.history) c.begun)
       (not_begun x.state.table x.state.begun run (ap (λ t. found t run) (sym x.finished) ∙ f)
       (ap (λ t. request_of t run) (sym x.begun) ∙ u))))
 
   pub finished-open : (id : ℕ) (run : RunId) (made : Record)
-      → ∥ Shown seen w log origins slots making table end ∥₁ → found table.finished run ≡ Some made
-      → ∥ WouldClose w log.events id run ∥₁ → ⊥
+      → ∥ Shown seen w history origins slots making table end ∥₁
+      → found table.finished run ≡ Some made
+      → ∥ WouldClose w history.events id run ∥₁ → ⊥
   finished-open id run made shown f c = ∥∥₁_elim shown (λ p q. absurd p)
       (λ x. ∥∥₁_elim c (λ p q. absurd p) (λ c.
       let n : found x.state.table run ≡ None = subst (λ (s : State P I A). found s.table run ≡ None)
-      (one_state w log.events c.state x.state c.history x.history) c.unfinished in
+      (one_state w history.events c.state x.state c.history x.history) c.unfinished in
       let a : Some made ≡ None = sym f ∙ (ap (λ t. found t run) x.finished ∙ n) in cc))
 
-module _ {W P I A : Type 0} (seen : W → Seen P I A) (w : World P I A) {log : History}
+module _ {W P I A : Type 0} (seen : W → Seen P I A) (w : World P I A) {history : History}
     {origins : List Origin} {slots : List (Slot W)} {making : List (Option RunId)}
     {table : TableRuns} {end : Option End} {ready_ones : Numbered} {waiting_ones : List Numbered}
   where
     -- all that wait are there
-    pub waiting-bounded : ∥ Shown seen w log origins slots making table end ∥₁
+    pub waiting-bounded : ∥ Shown seen w history origins slots making table end ∥₁
         → ∥ Indexed slots ready_ones waiting_ones ∥₁ → AreBounded waiting_ones (length origins)
     waiting-bounded shown indexed = ∥∥₁_elim shown (bounded-prop waiting_ones (length origins))
         (λ x. ∥∥₁_elim indexed (bounded-prop waiting_ones (length origins)) (λ y. record {
@@ -348,7 +354,8 @@ module _ {W P I A : Type 0} (seen : W → Seen P I A) (w : World P I A) {log : H
             go (Some slot) e h = at-less slots id slot e
 
     -- the request that has begun a run has a list of those that wait
-    pub begun-there : (run : RunId) (by : ℕ) → ∥ Shown seen w log origins slots making table end ∥₁
+    pub begun-there : (run : RunId) (by : ℕ)
+        → ∥ Shown seen w history origins slots making table end ∥₁
         → ∥ Indexed slots ready_ones waiting_ones ∥₁ → request_of table.begun run ≡ Some by
         → found table.finished run ≡ None → by < length waiting_ones
     begun-there run by shown indexed u f = ∥∥₁_elim shown (λ p q. le_prop p q)
@@ -357,21 +364,22 @@ module _ {W P I A : Type 0} (seen : W → Seen P I A) (w : World P I A) {log : H
         let b : beginner x.state.begun run ≡ Some by = sym
         (unfinished-beginner x.state.table x.state.begun run f_now)
         ∙ (ap (λ t. request_of t run) (sym x.begun) ∙ u) in
-        let z = (kindred w log.events x.state x.history).free.working run
+        let z = (kindred w history.events x.state x.history).free.working run
         (beginner-begun x.state.begun run by b, f_now) in
-        let i = inside-open x.state (lawful w log.events x.state x.history) z.0 z.1 run z.2 z.3 in
+        let i = inside-open x.state (lawful w history.events x.state x.history) z.0 z.1 run z.2 z.3
+        in
         let n : z.0 ≡ by = same_some (beginner x.state.begun run) z.0 by i.1 b in
         let q = at-kins x.state.requests z.0 z.1 z.2 in
         let l : z.0 < length x.state.requests = at-less x.state.requests z.0 q.0 q.1 in
         let a : length slots ≡ length x.state.requests = Paired-length
-        (ShowsSlot w x.state (length log.events) seen) slots x.state.requests x.each in
+        (ShowsSlot w x.state (length history.events) seen) slots x.state.requests x.each in
         let d : length waiting_ones ≡ length slots = y.lists in omega arith))
 
     -- a request with a node is in no list
     pub unlisted : {mid : List Numbered} (id : ℕ) (walk : W) (by : ℕ)
-        → ∥ Shown seen w log origins slots making table end ∥₁
+        → ∥ Shown seen w history origins slots making table end ∥₁
         → ∥ Indexed slots ready_ones waiting_ones ∥₁
-        → ∥ IsOwn w log.events table.finished id (seen walk) ∥₁ → HaveNumbers waiting_ones mid
+        → ∥ IsOwn w history.events table.finished id (seen walk) ∥₁ → HaveNumbers waiting_ones mid
         → among id (numbers_of (at mid by)) ≡ false
     unlisted {mid} id walk by shown indexed own h = ∥∥₁_elim shown
         (truth-prop (among id (numbers_of (at mid by))) false)
@@ -383,30 +391,31 @@ module _ {W P I A : Type 0} (seen : W → Seen P I A) (w : World P I A) {log : H
 
     -- what is said of a cycle
     pub cycle-closed : (id : ℕ) (run : RunId) (by : ℕ) (way : Dependent)
-        → ∥ Shown seen w log origins slots making table end ∥₁
-        → ∥ Indexed slots ready_ones waiting_ones ∥₁ → ∥ IsAssigned w log.events id ∥₁
+        → ∥ Shown seen w history origins slots making table end ∥₁
+        → ∥ Indexed slots ready_ones waiting_ones ∥₁ → ∥ IsAssigned w history.events id ∥₁
         → request_of table.begun run ≡ Some by → found table.finished run ≡ None →
-        TellsDependent origins waiting_ones id by (Some way) → ∥ WouldClose w log.events id run ∥₁
+        TellsDependent origins waiting_ones id by (Some way)
+        → ∥ WouldClose w history.events id run ∥₁
     cycle-closed id run by way shown indexed v b f n = ∥∥₁_elim shown ∥∥₁_prop
         (λ x.
         ∥∥₁_elim indexed ∥∥₁_prop
         (λ y. ∥∥₁_elim v ∥∥₁_prop (λ v. ∣ would-some seen w x y id run by b f v way n ∣₁)))
 
     pub cycle-open : (id : ℕ) (run : RunId) (by : ℕ)
-        → ∥ Shown seen w log origins slots making table end ∥₁
+        → ∥ Shown seen w history origins slots making table end ∥₁
         → ∥ Indexed slots ready_ones waiting_ones ∥₁ → request_of table.begun run ≡ Some by
         → found table.finished run ≡ None →
-        TellsDependent origins waiting_ones id by None → ∥ WouldClose w log.events id run ∥₁ → ⊥
+        TellsDependent origins waiting_ones id by None → ∥ WouldClose w history.events id run ∥₁ → ⊥
     cycle-open id run by shown indexed b f n c = ∥∥₁_elim shown (λ p q. absurd p)
         (λ x. ∥∥₁_elim indexed (λ p q. absurd p)
         (λ y. ∥∥₁_elim c (λ p q. absurd p) (λ c. would-none seen w x y id run by b f n c)))
 
     pub cycle-told : (id : ℕ) (run : RunId) (by : ℕ) (o : Option Dependent)
-        → ∥ Shown seen w log origins slots making table end ∥₁
-        → ∥ Indexed slots ready_ones waiting_ones ∥₁ → ∥ IsAssigned w log.events id ∥₁
+        → ∥ Shown seen w history origins slots making table end ∥₁
+        → ∥ Indexed slots ready_ones waiting_ones ∥₁ → ∥ IsAssigned w history.events id ∥₁
         → request_of table.begun run ≡ Some by → found table.finished run ≡ None →
         TellsDependent origins waiting_ones id by o → (b : Bool) → b ≡ is_some o
-        → Decides b ∥ WouldClose w log.events id run ∥₁
+        → Decides b ∥ WouldClose w history.events id run ∥₁
     cycle-told id run by None shown indexed v u f n b e = (
       (λ t. absurd (let a : true ≡ false = sym t ∙ e in cc)),
       λ h.
@@ -416,14 +425,14 @@ module _ {W P I A : Type 0} (seen : W → Seen P I A) (w : World P I A) {log : H
         ((λ t. cycle-closed id run by found shown indexed v u f n), λ h. e)
 
     pub circle-closed : (id : ℕ) (walk : W) (run : RunId) (by : ℕ) (way : Dependent)
-        (runs : List RunId) → ∥ Shown seen w log origins slots making table end ∥₁
+        (runs : List RunId) → ∥ Shown seen w history origins slots making table end ∥₁
         → ∥ Indexed slots ready_ones waiting_ones ∥₁
-        → ∥ IsOwn w log.events table.finished id (seen walk) ∥₁ →
+        → ∥ IsOwn w history.events table.finished id (seen walk) ∥₁ →
         ask_of (seen walk).position ≡ Want run → request_of table.begun run ≡ Some by
         → found table.finished run ≡ None → TellsDependent origins waiting_ones id by (Some way)
         → IsCycleOver way.dependents.requests.keys way.dependents.needs.items making way.place run
         runs →
-        ∥ ClosesCycle w log.events id run runs ∥₁
+        ∥ ClosesCycle w history.events id run runs ∥₁
     circle-closed id walk run by way runs shown indexed o a b f n r = ∥∥₁_elim shown ∥∥₁_prop
         (λ x.
         ∥∥₁_elim indexed ∥∥₁_prop
@@ -431,19 +440,19 @@ module _ {W P I A : Type 0} (seen : W → Seen P I A) (w : World P I A) {log : H
         ∥∥₁_elim o ∥∥₁_prop (λ o. ∣ circle-some seen w x y id run by b f walk o a way n runs r ∣₁)))
 
     pub circle-open : (id : ℕ) (run : RunId) (by : ℕ)
-        → ∥ Shown seen w log origins slots making table end ∥₁
+        → ∥ Shown seen w history origins slots making table end ∥₁
         → ∥ Indexed slots ready_ones waiting_ones ∥₁ → request_of table.begun run ≡ Some by
         → found table.finished run ≡ None →
         TellsDependent origins waiting_ones id by None → (runs : List RunId)
-        → ∥ ClosesCycle w log.events id run runs ∥₁ → ⊥
+        → ∥ ClosesCycle w history.events id run runs ∥₁ → ⊥
     circle-open id run by shown indexed b f n runs c = ∥∥₁_elim shown (λ p q. absurd p)
         (λ x. ∥∥₁_elim indexed (λ p q. absurd p)
         (λ y. ∥∥₁_elim c (λ p q. absurd p) (λ c. circle-none seen w x y id run by b f n runs c)))
 
     -- all that are found are in a body
     pub way-making : (id : ℕ) (run : RunId) (by : ℕ) (way : Dependent)
-        → ∥ Shown seen w log origins slots making table end ∥₁
-        → ∥ Indexed slots ready_ones waiting_ones ∥₁ → ∥ IsAssigned w log.events id ∥₁
+        → ∥ Shown seen w history origins slots making table end ∥₁
+        → ∥ Indexed slots ready_ones waiting_ones ∥₁ → ∥ IsAssigned w history.events id ∥₁
         → request_of table.begun run ≡ Some by → found table.finished run ≡ None →
         TellsDependent origins waiting_ones id by (Some way) → (request : ℕ)
         → among request way.dependents.requests.keys ≡ true → IsMaking (at making request)
@@ -457,19 +466,19 @@ module _ {W P I A : Type 0} (seen : W → Seen P I A) (w : World P I A) {log : H
         way.dependents.needs.items n.2 n.1 i.0 request i.1 in
         subst IsMaking (sym m.1) tt)))
 
-module _ {W P I A : Type 0} (seen : W → Seen P I A) (w : World P I A) (log after : History)
+module _ {W P I A : Type 0} (seen : W → Seen P I A) (w : World P I A) (history after : History)
     {origins : List Origin} {slots : List (Slot W)} {making : List (Option RunId)}
     {table : TableRuns} {end : Option End} (id : ℕ) (walk : W) (run : RunId) (by : ℕ) where
   -- the state in which it waits
-  abbrev put_state : (x : Shown seen w log origins slots making table end)
-      → Claims seen w log log id walk run x → State P I A
+  abbrev put_state : (x : Shown seen w history origins slots making table end)
+      → Claims seen w history history id walk run x → State P I A
   put_state x c = waiting w x.state id
       (placed c.there.origin (seen walk).position (assigned c.there.node))
       run c.wanted.body c.wanted.go
 
-  no-cycle : (x : Shown seen w log origins slots making table end)
-      (c : Claims seen w log log id walk run x) → found x.state.table run ≡ None
-      → is_begun run x.state.begun ≡ true → IsClosingCycle w log.events id run None
+  no-cycle : (x : Shown seen w history origins slots making table end)
+      (c : Claims seen w history history id walk run x) → found x.state.table run ≡ None
+      → is_begun run x.state.begun ≡ true → IsClosingCycle w history.events id run None
       → is_in_cycle (put_state x c) run ≡ false
   no-cycle x c f b n = elim (tells (is_in_cycle (put_state x c) run)) [
     | inr t ↦ t
@@ -480,7 +489,7 @@ module _ {W P I A : Type 0} (seen : W → Seen P I A) (w : World P I A) (log aft
         (walking (wants c.wanted.site run c.wanted.body c.wanted.go)) = ap
         (assigned c.there.node) c.wanted.is in
         let shows =
-        (cycles_are_shown w log.events x.state x.history id c.there.node q c.wanted.site run
+        (cycles_are_shown w history.events x.state x.history id c.there.node q c.wanted.site run
         c.wanted.body c.wanted.go c.there.at_state st b f).0 t in
         absurd (n (run ∷ shows.0 ++ run ∷ []) ∣ record {
           state = x.state;
@@ -500,25 +509,25 @@ module _ {W P I A : Type 0} (seen : W → Seen P I A) (w : World P I A) (log aft
         } ∣₁)
   ]
 
-  waits-step : (x : Shown seen w log origins slots making table end)
-      (c : Claims seen w log log id walk run x) → found x.state.table run ≡ None
-      → is_begun run x.state.begun ≡ true → IsClosingCycle w log.events id run None
+  waits-step : (x : Shown seen w history origins slots making table end)
+      (c : Claims seen w history history id walk run x) → found x.state.table run ≡ None
+      → is_begun run x.state.begun ≡ true → IsClosingCycle w history.events id run None
       → step w x.state (Claim id run Wait) ≡ Some (put_state x c)
-  waits-step x c f b n = claim-step seen w log log id walk run x c Wait
+  waits-step x c f b n = claim-step seen w history history id walk run x c Wait
       ∙ (ap
       (λ t. only_if (may_wait w t (found x.state.table run) (is_in_cycle (put_state x c) run))
       (put_state x c)) b
       ∙ (ap (λ o. only_if (may_wait w true o (is_in_cycle (put_state x c) run)) (put_state x c)) f
       ∙ ap (λ t. only_if (may_wait w true None t) (put_state x c)) (no-cycle x c f b n)))
 
-  pub waited-shown : {outs : List (Slot W)} → IsOwn w log.events table.finished id (seen walk)
+  pub waited-shown : {outs : List (Slot W)} → IsOwn w history.events table.finished id (seen walk)
       → ask_of (seen walk).position ≡ Want run → found table.finished run ≡ None
-      → request_of table.begun run ≡ Some by → IsClosingCycle w log.events id run None →
-      after.events ≡ log.events ++ Claim id run Wait ∷ [] → log.room + 2 ≡ after.room + 1
-      → outs ≡ put slots id (Waiting walk by) → Shown seen w log origins slots making table end
+      → request_of table.begun run ≡ Some by → IsClosingCycle w history.events id run None →
+      after.events ≡ history.events ++ Claim id run Wait ∷ [] → history.room + 2 ≡ after.room + 1
+      → outs ≡ put slots id (Waiting walk by) → Shown seen w history origins slots making table end
       → Shown seen w after origins outs making table end
   waited-shown o a f u n ev room out x =
-      let c = claims-of seen w log log id walk run x o a in
+      let c = claims-of seen w history history id walk run x o a in
       let q : RequestState P I A = placed c.there.origin (seen walk).position
       (assigned c.there.node) in
       let z : RequestState P I A = record {
@@ -536,12 +545,13 @@ module _ {W P I A : Type 0} (seen : W → Seen P I A) (w : World P I A) (log aft
       subst (λ (xs : List (Slot W)). Shown seen w after origins xs making table end) (sym out)
       (shown-put seen w (Claim id run Wait) id q z (put_state x c) (Waiting walk by) x
       c.there.at_state (waits-step x c f_now b n) refl refl refl refl refl ev
-      (let k : owed q.status ≡ 1 = ap owed (wanting_status seen w log log id walk run x c) in omega
+      (let k : owed q.status ≡ 1 = ap owed (wanting_status seen w history history id walk run x c)
+      in omega
       arith)
       (x.bodies
       ∙ sym
       (map-put making_of x.state.requests id q z c.there.at_state
-      (sym (ap run_at (wanting_status seen w log log id walk run x c))))) refl x.begun
+      (sym (ap run_at (wanting_status seen w history history id walk run x c))))) refl x.begun
       (λ n b d e.
       record {
         begun = λ other body go by h g. g;
@@ -566,9 +576,9 @@ module _ {W P I A : Type 0} (seen : W → Seen P I A) (w : World P I A) (log aft
                     place;
               }) c.wanted.is;
           asked = o.asked;
-          few = let k : length after.events ≡ suc (length log.events) = one-more log.events
+          few = let k : length after.events ≡ suc (length history.events) = one-more history.events
               after.events (Claim id run Wait) ev in let m : (seen walk).asked
-              ≤ length log.events = o.few in omega arith;
+              ≤ length history.events = o.few in omega arith;
         };
         begun = u_now;
       }))

@@ -204,19 +204,19 @@ used_in seen slot = 0
 
 -- a request that is ready between two runs comes to its end by the records of these runs, once it
 -- is with a node, and there is room for their events
-pub record EndsAlike {P I A : Type 0} (w : World P I A) (log : History) (id node : ℕ)
+pub record EndsAlike {P I A : Type 0} (w : World P I A) (core_history : History) (id node : ℕ)
     (rest : List RunId) : Type 0 where
   pub state : State P I A
   pub request : RequestState P I A
   pub walk : Walk P I A
-  pub history : IsHistory w log.events state
+  pub history : IsHistory w core_history.events state
   pub there : at state.requests id ≡ Some request
   pub between : request.status ≡ ready (walking walk)
   pub result : RequestResult
   pub last : Journal
   pub told : walk_by w state.table walk request.journal request.runs ≡ Some (result, last)
   pub left : result.runs ≡ request.runs ++ rest
-  pub spare : owed_by state.requests + length rest ≤ log.room
+  pub spare : owed_by state.requests + length rest ≤ core_history.room
 
 -- a ready request, between two runs, ends so once it is with a node: with the result that the table
 -- tells of a request of its key that begins with its caller's journal, by the records of the runs

@@ -36,6 +36,11 @@ pub record IsAssignedTo {P I A : Type 0} (w : World P I A) (events : List Event)
   pub there : at state.requests id ≡ Some request
   pub is : request.status ≡ assigned node place
 
+-- it is a request that is ready, or none is
+abbrev pub IsSomeReady : {P I A : Type 0} → World P I A → List Event → Option ℕ → Type 0
+IsSomeReady w events None = (id : ℕ) → ∥ IsReady w events id ∥₁ → ⊥
+IsSomeReady w events (Some next) = ∥ IsReady w events next ∥₁
+
 -- it is the least request that is ready, or none is
 abbrev pub IsLeastReady : {P I A : Type 0} → World P I A → List Event → Option ℕ → Type 0
 IsLeastReady w events None = (id : ℕ) → ∥ IsReady w events id ∥₁ → ⊥

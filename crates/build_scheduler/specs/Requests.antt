@@ -44,10 +44,11 @@ use Rattle.build_scheduler.specs.Position.{Position, ask_of}
 use Rattle.build_scheduler.specs.Slots.{owed_by}
 
 -- there is room for so many more events than the requests owe
-pub record HasSpare {P I A : Type 0} (w : World P I A) (log : History) (more : ℕ) : Type 0 where
+pub record HasSpare {P I A : Type 0} (w : World P I A) (core_history : History) (more : ℕ)
+    : Type 0 where
   pub state : State P I A
-  pub history : IsHistory w log.events state
-  pub spare : owed_by state.requests + more ≤ log.room
+  pub history : IsHistory w core_history.events state
+  pub spare : owed_by state.requests + more ≤ core_history.room
 
 -- the keys from a request up to the root
 abbrev pub AreKeysUp : {P I A : Type 0} → List (RequestState P I A) → Option ℕ → List RequestKey

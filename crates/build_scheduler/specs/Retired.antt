@@ -13,11 +13,12 @@ use Rattle.build_scheduler.specs.Ready.{IsAssignedTo}
 
 -- the events have this Retire, with room for the next Assign; or nothing changes, since no other
 -- node is active
-abbrev pub IsLogged : History → History → ℕ → ℕ → Bool → Type 0
-IsLogged log after id node true =
-    (after.events ≡ log.events ++ Retire id node ∷ []) × (after.room ≡ log.room + 1)
-IsLogged log after id node false =
-    (after.events ≡ log.events) × (after.room ≡ log.room) × (suc (retires log.events) ≡ log.nodes)
+abbrev pub IsAppended : History → History → ℕ → ℕ → Bool → Type 0
+IsAppended before after id node true =
+    (after.events ≡ before.events ++ Retire id node ∷ []) × (after.room ≡ before.room + 1)
+IsAppended before after id node false =
+    (after.events ≡ before.events) × (after.room ≡ before.room)
+    × (suc (retires before.events) ≡ before.nodes)
 
 module _ {P I A : Type 0} (w : World P I A) (nodes : ℕ) (events after : List Event) where
   -- the node that has the request gives it back, and the build goes on; or no other node is

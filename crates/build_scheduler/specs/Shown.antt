@@ -69,18 +69,18 @@ AreNested origins = (id : ℕ) (origin : Origin) → at origins id ≡ Some orig
     → (origin.depth < deepest) × IsNested origins origin.depth origin.parent
 
 -- the events are a legal history, and the core shows the state after them
-pub record Shown {W P I A : Type 0} (seen : W → Seen P I A) (w : World P I A) (log : History)
-    (origins : List Origin) (slots : List (Slot W)) (making : List (Option RunId))
-    (table : TableRuns) (end : Option End) : Type 0 where
+pub record Shown {W P I A : Type 0} (seen : W → Seen P I A) (w : World P I A)
+    (core_history : History) (origins : List Origin) (slots : List (Slot W))
+    (making : List (Option RunId)) (table : TableRuns) (end : Option End) : Type 0 where
   pub state : State P I A
-  pub history : IsHistory w log.events state
+  pub history : IsHistory w core_history.events state
   pub asked : origins ≡ map origin_of state.requests
   pub rooted : AreRooted origins
-  pub each : Paired (ShowsSlot w state (length log.events) seen) slots state.requests
+  pub each : Paired (ShowsSlot w state (length core_history.events) seen) slots state.requests
   pub bodies : making ≡ map making_of state.requests
   pub finished : table.finished ≡ state.table
   pub begun : table.begun ≡ unfinished state.table state.begun
-  pub room : owed_by state.requests ≤ log.room
+  pub room : owed_by state.requests ≤ core_history.room
   pub ends : ShowsEnd state end
 
 -- whether a slot is ready, and whether it waits for the run that this request has begun

@@ -1,24 +1,4 @@
-ghost use Rattle.std.specs.Prelude.{
-  ◌≡◌,
-  ◌+◌,
-  ◌-◌,
-  ◌<◌,
-  ◌≤◌,
-  ◌++◌,
-  ◌∷◌,
-  ◌==◌,
-  ◌||◌,
-  ◌&&◌,
-  ℕ,
-  [],
-  None,
-  Some,
-  false,
-  true,
-  IsTrue,
-  length,
-  ◌↔◌,
-};
+ghost use Rattle.std.specs.Prelude.{◌≡◌, ◌+◌, ◌-◌, ◌<◌, ◌++◌, ◌∷◌, [], None, Some, false, length};
 ghost use Rattle.result_cache.specs.declared.request.RequestResult.{RequestResult as Told};
 ghost use Rattle.build_meaning.specs.declared.event.Event.TheVariants.{Done};
 ghost use Rattle.build_meaning.specs.Lists.{at, put};
@@ -38,7 +18,7 @@ ghost use Rattle.build_scheduler.specs.Learnt.{AreInOrder};
 ghost use Rattle.build_scheduler.specs.Numbers.{among};
 ghost use Rattle.build_scheduler.specs.Own.{Asks, IsOwn};
 ghost use Rattle.build_scheduler.specs.Position.{ask_of};
-ghost use Rattle.build_scheduler.specs.Shown.{is_ready, one_unless};
+ghost use Rattle.build_scheduler.specs.Shown.{is_ready};
 
 use crate::request_set::RequestSet;
 use crate::scheduler::{put_slot, replace_slot};
@@ -75,6 +55,7 @@ impl<W: Walker> Core<W> {
         let left = self.give_journal(id, walk);
         let end = self.kept.count_done(id);
         self.released.put_end(end);
+        self.preferred.close(self.kept.place(id));
         self.history.push(Event::Done(id));
         put_slot(&mut self.slots, id, Slot::Done);
         match parent_of(&self.origins, id) {
@@ -84,6 +65,7 @@ impl<W: Walker> Core<W> {
             }
             Some(caller) => {
                 resume(&mut self.slots, &mut self.ready, caller, id, request_result);
+                self.preferred.list_ready(&self.slots, caller);
                 left
             }
         }

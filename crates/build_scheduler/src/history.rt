@@ -1,7 +1,7 @@
-ghost use Rattle.std.specs.Prelude.{◌≡◌, ◌+◌, ◌<◌, ◌≤◌, [], ◌∷◌, ◌++◌, IfOk, OnOk, OnErr, length};
+ghost use Rattle.std.specs.Prelude.{◌≡◌, ◌+◌, ◌<◌, ◌≤◌, [], ◌∷◌, ◌++◌, IfOk, OnOk, OnErr};
 ghost use Rattle.build_meaning.specs.History.{AreOfNodes, retires};
 ghost use Rattle.build_scheduler.specs.History.{most_nodes};
-ghost use Rattle.build_scheduler.specs.Retired.{IsLogged};
+ghost use Rattle.build_scheduler.specs.Retired.{IsAppended};
 
 use build_meaning::Event;
 use msb_values::NoMemory;
@@ -51,9 +51,9 @@ impl Model for History {
 impl History {
     /// No event, with room for what nodes that retire need.
     pub fn new(alloc: Global) -> Result<History, NoMemory>
-        ensures events { IfOk result (λ log. log.events ≡ []) }
-        ensures room { IfOk result (λ log. log.room ≡ 0) }
-        ensures nodes { IfOk result (λ log. log.nodes ≡ 1) }
+        ensures events { IfOk result (λ history. history.events ≡ []) }
+        ensures room { IfOk result (λ history. history.room ≡ 0) }
+        ensures nodes { IfOk result (λ history. history.nodes ≡ 1) }
     {
         let mut events = Vec::new(alloc);
         events.reserve(2 * MOST_NODES as usize)?;
@@ -119,7 +119,7 @@ impl History {
     /// Adds the Retire of a node, with room for the Assign that follows it, where another node is
     /// active. This takes no memory.
     pub fn retire(&mut self, id: u64, node: u32) -> bool
-        ensures retired { IsLogged self.old self.new id node result }
+        ensures retired { IsAppended self.old self.new id node result }
         ensures nodes { self.new.nodes ≡ self.old.nodes }
         ensures active { AreOfNodes self.new.nodes self.new.events }
     {

@@ -231,7 +231,7 @@ impl<W: Drop> KeptEnds<W> {
         self.instances.get(self.place(id)?)
     }
 
-    fn place(&self, id: u64) -> Option<usize>
+    pub(crate) fn place(&self, id: u64) -> Option<usize>
         ensures { result ≡ at self.now.places.items id }
     {
         match self.places.get(id as usize) {

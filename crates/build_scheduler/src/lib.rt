@@ -13,6 +13,7 @@ mod history;
 mod instances;
 mod kept;
 mod opening;
+mod preferred;
 mod released;
 mod repeat;
 mod reply;

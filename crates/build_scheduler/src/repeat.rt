@@ -10,7 +10,6 @@ ghost use Rattle.std.specs.Prelude.{
   ◌∷◌,
   ◌↔◌,
   ◌⊎◌,
-  [],
   None,
   Some,
   IfNone,
@@ -23,7 +22,6 @@ ghost use Rattle.std.specs.Prelude.{
   OnSome,
   drop,
   length,
-  map,
   true,
 };
 ghost use Rattle.build_meaning.specs.declared.event.Event.TheVariants.{Assign};
@@ -31,7 +29,6 @@ ghost use Rattle.build_meaning.specs.History.{AreOfNodes};
 ghost use Rattle.build_meaning.specs.Lists.{at};
 ghost use Rattle.build_meaning.specs.Plain.{IsPlain};
 ghost use Rattle.build_history.specs.Repeated.{uses_of_all};
-ghost use Rattle.result_cache.specs.declared.request.RequestResult.{RequestResult as Told};
 ghost use Rattle.build_scheduler.specs.declared.slot.Origin.{Origin};
 ghost use Rattle.build_scheduler.specs.declared.walker.Ask.TheVariants.{Done as IsOver};
 ghost use Rattle.build_scheduler.specs.Kept.{

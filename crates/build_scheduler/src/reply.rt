@@ -2,7 +2,6 @@
 
 ghost use Rattle.std.specs.Prelude.{◌≡◌, None};
 ghost use Rattle.build_scheduler.specs.declared.walker.Ask.TheVariants.{Call, Want};
-ghost use Rattle.build_scheduler.specs.Ends.{IsStop};
 ghost use Rattle.build_scheduler.specs.Own.{IsOwn};
 ghost use Rattle.build_scheduler.specs.Position.{ask_of};
 ghost use Rattle.build_scheduler.specs.Replies.{IsReply, records_with};

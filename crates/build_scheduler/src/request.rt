@@ -6,11 +6,9 @@ ghost use Rattle.std.specs.Prelude.{
   ◌<◌,
   ◌≤◌,
   ◌++◌,
-  ◌∷◌,
   ◌&&◌,
   ◌||◌,
   ℕ,
-  [],
   None,
   Some,
   false,
@@ -24,7 +22,6 @@ ghost use Rattle.std.specs.Prelude.{
   IfOk,
   IfErr,
   OnOk,
-  OnErr,
 };
 ghost use Rattle.build_meaning.specs.Lists.{at, put, Paired};
 ghost use Rattle.build_meaning.specs.Meaning.{deepest};
@@ -94,6 +91,13 @@ impl<W: Drop> Drop for Children<W> {
     }
 }
 
+/// The request that calls, with its walk.
+#[derive(Drop)]
+struct Caller<W> {
+    id: u64,
+    walk: W,
+}
+
 impl<W: Drop> Children<W> {
     /// Puts the walk of a caller away, and enters its children behind the other requests.
     fn enter_all(
@@ -102,10 +106,9 @@ impl<W: Drop> Children<W> {
         slots: &mut Vec<Slot<W>>,
         making: &mut Vec<Option<RunId>>,
         waiting: &mut Vec<RequestSet>,
-        id: u64,
-        walk: W,
+        caller: Caller<W>,
     )
-        requires there { id < length slots.old.items }
+        requires there { caller.id < length slots.old.items }
         requires origin_room { vec_len origins.old + length self.origins.items
             ≤ vec_capacity origins.old }
         requires slot_room { vec_len slots.old + length self.slots.items ≤ vec_capacity slots.old }
@@ -114,7 +117,7 @@ impl<W: Drop> Children<W> {
         requires waiting_room { vec_len waiting.old + length self.waiting.items
             ≤ vec_capacity waiting.old }
         ensures origins { origins.new.items ≡ origins.old.items ++ self.origins.items }
-        ensures slots { AreEntered slots.old.items slots.new.items id walk self }
+        ensures slots { AreEntered slots.old.items slots.new.items caller.id caller.walk self }
         ensures making { making.new.items ≡ making.old.items ++ self.making.items }
         ensures waiting { waiting.new.items ≡ waiting.old.items ++ self.waiting.items }
     {
@@ -125,6 +128,7 @@ impl<W: Drop> Children<W> {
             waiting: mut new_waiting,
             results,
         } = self;
+        let Caller { id, walk } = caller;
         let calls = Calls {
             walk,
             first: slots.len() as u64,
@@ -302,14 +306,14 @@ impl<W: Walker> Core<W> {
             Ok(()) => {
                 self.kept.count(&self.instances, calls.as_slice());
                 list_new(&mut self.ready, self.slots.len() as u64, calls.len());
+                self.preferred.open(&self.kept.places, self.slots.len());
                 self.history.push(Event::Request(id, calls));
                 children.enter_all(
                     &mut self.origins,
                     &mut self.slots,
                     &mut self.making,
                     &mut self.waiting,
-                    id,
-                    walk,
+                    Caller { id, walk },
                 );
                 Ok(())
             }

@@ -11,7 +11,6 @@ ghost use Rattle.std.specs.Prelude.{
   None,
   Some,
   false,
-  true,
   length,
   map,
 };
@@ -19,7 +18,7 @@ ghost use Rattle.build_meaning.specs.declared.event.Event.TheVariants.{Result};
 ghost use Rattle.build_meaning.specs.Lists.{at, put};
 ghost use Rattle.build_scheduler.specs.declared.walker.Ask.TheVariants.{Finished};
 ghost use Rattle.build_scheduler.specs.declared.walker.Answer.TheVariants.{Use};
-ghost use Rattle.build_scheduler.specs.declared.slot.Slot.TheVariants.{Ready, Waiting};
+ghost use Rattle.build_scheduler.specs.declared.slot.Slot.TheVariants.{Ready};
 ghost use Rattle.build_scheduler.specs.Numbers.{among};
 ghost use Rattle.build_scheduler.specs.Own.{Asks, IsOut, IsOwn};
 ghost use Rattle.build_scheduler.specs.Position.{ask_of};
@@ -59,6 +58,7 @@ impl<W: Walker> Core<W> {
             Some(finished) => self.history.push(Event::Result(id, finished)),
             None => unreachable!(),
         }
+        self.preferred.list_all(self.waiting.get(id as usize));
         wake(&mut self.slots, &mut self.ready, &mut self.waiting, id);
     }
 }

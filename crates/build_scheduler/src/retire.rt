@@ -44,6 +44,7 @@ impl<W: Walker> Core<W> {
         let node = node_of(&self.slots, id);
         if self.history.retire(id, node) {
             self.ready.insert(id);
+            self.preferred.list(id);
             put_slot(&mut self.slots, id, Slot::Ready(walk, answer));
             true
         } else {

@@ -24,7 +24,7 @@ ghost use Rattle.build_scheduler.specs.Kept.{AreKept};
 ghost use Rattle.build_scheduler.specs.Learnt.{AreInOrder};
 ghost use Rattle.build_scheduler.specs.Own.{IsOut};
 ghost use Rattle.build_scheduler.specs.Position.{begins};
-ghost use Rattle.build_scheduler.specs.Ready.{IsReady, IsLeastReady};
+ghost use Rattle.build_scheduler.specs.Ready.{IsSomeReady, IsReady, IsLeastReady};
 ghost use Rattle.build_scheduler.specs.Shown.{AreNested, Shown, Indexed, is_ready};
 ghost use Rattle.build_scheduler.specs.declared.slot.Slot.TheVariants.{Ready, Assigned};
 ghost use Rattle.build_meaning.specs.Lists.{at, put};
@@ -33,6 +33,7 @@ use crate::history::History;
 use crate::instances::Instances;
 use crate::kept::KeptEnds;
 use crate::opening::{Opening, alone};
+use crate::preferred::Preferred;
 use crate::released::Released;
 use crate::request_set::RequestSet;
 use crate::slot::{End, Origin, Slot};
@@ -65,6 +66,8 @@ pub struct Core<W: Walker> {
     pub(crate) kept: KeptEnds<W>,
     /// What is not needed any more, until a node takes it.
     pub(crate) released: Released<W>,
+    /// In which order nodes take what is ready.
+    pub(crate) preferred: Preferred,
     ghost legal: { ∥ Shown W.seen (W.world_of world) history origins.items slots.items making.items
         table end ∥₁ },
     ghost indexed: { ∥ Indexed slots.items ready waiting.items ∥₁ },
@@ -94,6 +97,7 @@ impl<W: Walker + Drop> Drop for Core<W> {
             end: _,
             kept: _,
             released: _,
+            preferred: _,
         } = self;
     }
 }
@@ -135,6 +139,7 @@ impl<W: Walker> Core<W> {
             end: None,
             kept: KeptEnds::new(alloc)?,
             released: Released::new(alloc),
+            preferred: Preferred::new(alloc),
         })
     }
 
@@ -143,6 +148,22 @@ impl<W: Walker> Core<W> {
         ensures { IsLeastReady (W.world_of self.now.world) self.now.history.events result }
     {
         self.ready.least()
+    }
+
+    /// A request that is ready, if one is: the next in the order in which they became ready, or the
+    /// least, where those that are left are held back. (Building projects in parallel.)
+    pub fn next_ready(&mut self) -> Option<u64>
+        ensures world { W.world_of self.new.world ≡ W.world_of self.old.world }
+        ensures history { self.new.history.events ≡ self.old.history.events }
+        ensures table { self.new.table ≡ self.old.table }
+        ensures end { self.new.end ≡ self.old.end }
+        ensures nodes { self.new.history.nodes ≡ self.old.history.nodes }
+        ensures ready { IsSomeReady (W.world_of self.new.world) self.new.history.events result }
+    {
+        match self.preferred.next(&self.slots) {
+            Some(id) => Some(id),
+            None => self.ready.least(),
+        }
     }
 
     /// Hands a ready request to a node: its walk, with its next answer. Where the request is in a

@@ -101,43 +101,47 @@ module _ {P I A : Type 0} (w : World P I A) where
             arith;
       }
 
-module _ {P I A : Type 0} (w : World P I A) {W : Type 0} {seen : W → Seen P I A} {log : History}
+module _ {P I A : Type 0} (w : World P I A) {W : Type 0} {seen : W → Seen P I A} {history : History}
     {origins : List Origin} {slots : List (Slot W)} {making : List
     (Option RunId)} {table : TableRuns} {end : Option End} where
-  asking-still : Shown seen w log origins slots making table end →
-      (id number : ℕ) (walk : Seen P I A) → WasOwn w log.events id number walk →
-      AreOfOthers id (drop number log.events) → IsOwn w log.events table.finished id walk
+  asking-still : Shown seen w history origins slots making table end →
+      (id number : ℕ) (walk : Seen P I A) → WasOwn w history.events id number walk →
+      AreOfOthers id (drop number history.events) → IsOwn w history.events table.finished id walk
   asking-still x id number walk k others =
-      let behind : drop number log.events ≡ k.more = ap (λ n. drop n log.events) k.number_is
+      let behind : drop number history.events ≡ k.more = ap (λ n. drop n history.events) k.number_is
       ∙ (ap (drop (length k.before)) k.continues ∙ drop-front k.before k.more) in
-      own-still w k.before k.more log.events k.table table.finished id walk x.state k.own k.table_is
+      own-still w k.before k.more history.events k.table table.finished id walk x.state k.own
+      k.table_is
       k.continues (subst (AreOfOthers id) behind others) x.history x.finished
 
   -- the walk is its request's own now
-  asking-now : Shown seen w log origins slots making table end →
-      (id number : ℕ) (walk : Seen P I A) → number ≡ length log.events →
-      IsOwn w log.events table.finished id walk → WasOwn w log.events id number walk
+  asking-now : Shown seen w history origins slots making table end →
+      (id number : ℕ) (walk : Seen P I A) → number ≡ length history.events →
+      IsOwn w history.events table.finished id walk → WasOwn w history.events id number walk
   asking-now x id number walk is o = record {
-    before = log.events;
+    before = history.events;
     more = [];
     table = table.finished;
     number_is = is;
-    continues = sym (append-nil log.events);
+    continues = sym (append-nil history.events);
     own = o;
     table_is =
         ap (λ (s : State P I A). s.table)
-        (one_state w log.events o.stands.state x.state o.stands.history x.history) ∙ sym x.finished;
+        (one_state w history.events o.stands.state x.state o.stands.history x.history)
+        ∙ sym x.finished;
   }
 
-  module _ (legal : ∥ Shown seen w log origins slots making table end ∥₁) (id number : ℕ)
+  module _ (legal : ∥ Shown seen w history origins slots making table end ∥₁) (id number : ℕ)
       (walk : Seen P I A) (ask : Ask) where
-    pub still-own : IsAsking w log.events id number walk ask
-        → AreOfOthers id (drop number log.events) → ∥ IsOwn w log.events table.finished id walk ∥₁
+    pub still-own : IsAsking w history.events id number walk ask
+        → AreOfOthers id (drop number history.events)
+        → ∥ IsOwn w history.events table.finished id walk ∥₁
     still-own asking others = ∥∥₁_map₂ legal asking.1
         (λ x k. asking-still x id number walk k others)
 
-    pub asks-now : number ≡ length log.events → ask ≡ ask_of walk.position
-        → ∥ IsOwn w log.events table.finished id walk ∥₁ → IsAsking w log.events id number walk ask
+    pub asks-now : number ≡ length history.events → ask ≡ ask_of walk.position
+        → ∥ IsOwn w history.events table.finished id walk ∥₁
+        → IsAsking w history.events id number walk ask
     asks-now is asks own = (sym asks, ∥∥₁_map₂ legal own (λ x o. asking-now x id number walk is o))
 
 -- a request still asks after more events, in the same world

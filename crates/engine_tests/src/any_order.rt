@@ -2,10 +2,9 @@
 //! them is answered next. One that is ready may be over at once, by what another one of its key has
 //! given.
 ghost use Rattle.std.specs.Prelude.{◌≡◌, ◌+◌, ◌^◌, ◌<◌, [], All, length, None, Some, IfSome};
-ghost use Rattle.build_meaning.specs.Step.{whose};
 ghost use Rattle.build_scheduler.specs.Kept.{IsRepeated};
 ghost use Rattle.build_scheduler.specs.Own.{IsOut, IsOwn};
-ghost use Rattle.build_scheduler.specs.Position.{answered, ask_of, begins};
+ghost use Rattle.build_scheduler.specs.Position.{ask_of, begins};
 ghost use Rattle.build_scheduler.specs.Ready.{IsReady};
 ghost use Rattle.build_scheduler.specs.Drivers.{Continues};
 ghost use Rattle.engine_tests.specs.Trials.{IsAsking};

@@ -76,13 +76,16 @@ fn push_target(
     };
     write!(
         text,
-        "{{\"e\":\"Target\",\"a\":{{\"Name\":\"T{target}\",\"Outputs\":\"p{project}t{target}\"}},\"c\":[{{\"e\":\"Tally\"}},
+        "{{\"e\":\"Target\",\"a\":{{\"Name\":\"T{target}\",\"Outputs\":\"p{project}t{target}\"}},
+\"c\":[{{\"e\":\"Tally\"}},
 {{\"e\":\"MSBuild\",\"a\":{{\"BuildInParallel\":\"true\",\"Targets\":\"{called}\",\"Projects\":\""
     )?;
     push_projects(text, random, callable)?;
     write!(
         text,
-        "\"}},\"c\":[{{\"e\":\"Output\",\"a\":{{\"TaskParameter\":\"TargetOutputs\",\"ItemName\":\"O{target}\"}}}}]}},
+        "\"}},
+\"c\":[{{\"e\":\"Output\",
+\"a\":{{\"TaskParameter\":\"TargetOutputs\",\"ItemName\":\"O{target}\"}}}}]}},
 {{\"e\":\"WriteLinesToFile\",\"a\":{{\"File\":\"p{project}t{target}\",\"Overwrite\":\"true\",
 \"Lines\":\"p{project}t{target};@(O{target})\"}}}}]}}"
     )

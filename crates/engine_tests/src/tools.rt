@@ -5,7 +5,6 @@ ghost use Rattle.std.specs.Str.{bytes_eq};
 ghost use Rattle.task_trait.specs.declared.tools.ToolAnswer.TheVariants.{Made, Unknown};
 
 use crate::runs::{is_number, is_so, is_text, outside_of, status, status_alone, tree};
-use file_store::Tree;
 use gate_tools::Gate;
 use msb_values::{Act, Copied, Item, List, Name, NoMemory, Note, Pairs, Put, Shared, Text, Text8};
 use std::alloc::{AllocError, Global};
@@ -95,9 +94,12 @@ const ECHOES: [(&str, &str); 4] = [
     (
         "app/a.proj",
         r#"{"e":"Project","a":{"DefaultTargets":"New;Echoes;Old"},"c":[
-{"e":"ItemGroup","c":[{"e":"X","a":{"Include":"a","K":"red"}},{"e":"X","a":{"Include":"b","K":"RED"}},
+{"e":"ItemGroup","c":[
+{"e":"X","a":{"Include":"a","K":"red"}},
+{"e":"X","a":{"Include":"b","K":"RED"}},
 {"e":"X","a":{"Include":"c","K":"blue"}}]},
-{"e":"Target","a":{"Name":"New"},"c":[{"e":"WriteLinesToFile","a":{"File":"new.c","Overwrite":"true"}}]},
+{"e":"Target","a":{"Name":"New"},"c":[
+{"e":"WriteLinesToFile","a":{"File":"new.c","Overwrite":"true"}}]},
 {"e":"Target","a":{"Name":"Echoes"},"c":[
 {"e":"Echo","a":{"Sources":"one.c;new.c;no.c","Text":"a%3Bb"},"c":[
 {"e":"Output","a":{"TaskParameter":"Text","ItemName":"Z"}}]},
@@ -106,7 +108,8 @@ const ECHOES: [(&str, &str); 4] = [
 {"e":"Compile","a":{"Sources":"one.c","ContinueOnError":"ErrorAndContinue"}},
 {"e":"Compile","a":{"ContinueOnError":"WarnAndContinue"}},
 {"e":"Echo","a":{"Sources":"../..","ContinueOnError":"ErrorAndContinue"}}]},
-{"e":"Target","a":{"Name":"Old","Inputs":"two.c","Outputs":"two.o"},"c":[{"e":"Echo","a":{"Objects":"x.o;y.o"}}]}]}"#,
+{"e":"Target","a":{"Name":"Old","Inputs":"two.c","Outputs":"two.o"},"c":[
+{"e":"Echo","a":{"Objects":"x.o;y.o"}}]}]}"#,
     ),
     ("app/one.c", "1"),
     ("app/two.c", ""),

@@ -19,8 +19,8 @@ returns-then-has_retired-clause-next g c =
     (ap (λ es. list_any (is_retire_of node) (drop c.number.result es))
     (sym c.history.ensures.events) ∙ (sym c.has_retired.ensures ∙ c.if-has_retired.true))
 
-pub assign_least-requires-clause-active : goal.assign_least-requires-clause-active
-assign_least-requires-clause-active g c =
+pub assign_next-requires-clause-active : goal.assign_next-requires-clause-active
+assign_next-requires-clause-active g c =
     let m = g.W.Walker in
     let now = c.args.core.now in
     let node = c.args.node in

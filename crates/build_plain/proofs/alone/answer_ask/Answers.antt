@@ -26,7 +26,8 @@ returns-in-GoesOn-clause-drives g c =
     let after = c.answer_ask.new.self in
     let reply = c.in-GoesOn.ensures.reply in
     own-drives (m.world_of core.world) core.history.events after.history.events c.args.id
-    (claim-event core.history.events after.history.events c.args.id c.args.ask c.in-GoesOn.answer reply.0)
+    (claim-event core.history.events after.history.events c.args.id c.args.ask c.in-GoesOn.answer
+    reply.0)
 
 pub returns-in-GoesOn-clause-grows : goal.returns-in-GoesOn-clause-grows
 returns-in-GoesOn-clause-grows g c =
@@ -35,7 +36,8 @@ returns-in-GoesOn-clause-grows g c =
     let after = c.answer_ask.new.self in
     let reply = c.in-GoesOn.ensures.reply in
     own-grows (m.world_of core.world) core.history.events after.history.events c.args.id
-    (claim-event core.history.events after.history.events c.args.id c.args.ask c.in-GoesOn.answer reply.0)
+    (claim-event core.history.events after.history.events c.args.id c.args.ask c.in-GoesOn.answer
+    reply.0)
 
 pub returns-in-GoesOn-clause-turn : goal.returns-in-GoesOn-clause-turn
 returns-in-GoesOn-clause-turn g c =

@@ -1,4 +1,3 @@
-use Rattle.std.proofs.Common.{[], ◌∷◌, append-nil, sym, ◌∙◌}
 use Rattle.build_scheduler.proofs.Replying.{claim-event, over-event, result-event, wait-event}
 use Rattle.engine_tests.proofs.Others.{own-continues}
 use Rattle.engine_tests.proofs.any_order.answer_ask.Goals as goal

@@ -8,11 +8,10 @@ returns-clause-slots g c =
     let m : vec_len c.args.self.slots ≡ length c.args.self.slots.items = search rules in
     record {
       calls = record {
-        walk = c.args.walk;
+        walk = c.args.caller.walk;
         first = c.len.result;
         «open» = c.len-2.result;
-        results =
-            c.args.self.results;
+        results = c.args.self.results;
       };
       walk_is = refl;
       first_is = c.len.ensures ∙ n;

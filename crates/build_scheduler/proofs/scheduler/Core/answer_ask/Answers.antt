@@ -1,6 +1,5 @@
 use Rattle.std.proofs.Common.{◌∙◌}
 use Rattle.std.proofs.Math.Logic.{∥∥₁_map}
-use Rattle.build_scheduler.proofs.NoRecords.{own-alike}
 use Rattle.build_scheduler.proofs.scheduler.Core.answer_ask.Goals as goal
 
 pub result-requires-clause-asks : goal.result-requires-clause-asks

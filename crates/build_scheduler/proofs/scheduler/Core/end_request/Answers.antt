@@ -17,7 +17,8 @@ finish_request-requires-clause-own g c =
     let told = c.keep.ensures in
     own-kept (m.world_of now.world) (m.world_of kept.world) now.history.events kept.history.events
     now.table.finished kept.table.finished c.args.id (m.seen c.args.walk) told.world
-    (ap (λ (log : History). log.events) told.history) (ap (λ (table : TableRuns). table.finished)
+    (ap (λ (history : History). history.events) told.history)
+    (ap (λ (table : TableRuns). table.finished)
     told.table) c.requires.own
 
 pub finish_request-requires-clause-asks : goal.finish_request-requires-clause-asks
@@ -28,12 +29,12 @@ finish_request-requires-clause-asks g c =
     let told = c.keep.ensures in
     asks-kept (m.world_of now.world) (m.world_of kept.world) now.history.events kept.history.events
     now.table.finished c.args.id (m.seen c.args.walk) (IsOver c.args.request_result) told.world
-    (ap (λ (log : History). log.events) told.history) c.requires.asks c.requires.own
+    (ap (λ (history : History). history.events) told.history) c.requires.asks c.requires.own
 
 pub returns-clause-history : goal.returns-clause-history
 returns-clause-history g c =
     c.finish_request.ensures.history
-    ∙ ap (λ (log : History). log.events ++ Done c.args.id ∷ []) c.keep.ensures.history
+    ∙ ap (λ (history : History). history.events ++ Done c.args.id ∷ []) c.keep.ensures.history
 
 pub returns-clause-left : goal.returns-clause-left
 returns-clause-left g c =
@@ -46,4 +47,5 @@ returns-clause-left g c =
     (subst
     (λ (events : List Event).
     IsHandedBack (m.world_of kept.world) events c.args.id c.args.walk c.finish_request.result)
-    (ap (λ (log : History). log.events) c.keep.ensures.history) c.finish_request.ensures.left)
+    (ap (λ (history : History). history.events) c.keep.ensures.history)
+    c.finish_request.ensures.left)

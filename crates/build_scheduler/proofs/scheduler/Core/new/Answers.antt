@@ -1,4 +1,4 @@
-use Rattle.std.proofs.Common.{◌∷◌, ◌==◌, ◌∙◌, [], ap, refl, sym, subst, arith}
+use Rattle.std.proofs.Common.{◌∙◌, [], ap, refl, sym, subst, arith}
 use Rattle.build_meaning.specs.History.{AreOfNodes, retires}
 use Rattle.build_scheduler.specs.History.{History}
 use Rattle.build_scheduler.specs.Numbers.{Numbered, among}
@@ -13,12 +13,12 @@ invariant_of-result g c =
     let m = g.W.Walker in
     let opening = c.in_ok-opening.ensures in
     let parts = c.parts-history.ensures in
-    let events = ap (λ (log : History). log.events) parts.history ∙ opening.events in
+    let events = ap (λ (history : History). history.events) parts.history ∙ opening.events in
     record {
       legal = ∣ shown-start m.seen c.args.walk c.args.root
           c.origin-world.ensures c.requires.key c.requires.begins c.requires.asked c.requires.learnt
           events
-          (ap (λ (log : History). log.room) parts.history ∙ opening.room)
+          (ap (λ (history : History). history.room) parts.history ∙ opening.room)
           c.in_ok-origins.ensures
           c.in_ok-slots.ensures
           (ap (λ making. making.items) parts.making ∙ opening.making)
@@ -29,7 +29,8 @@ invariant_of-result g c =
           refl (λ n. ap (λ (ready : Numbered). among n ready.numbers) parts.ready ∙ opening.ready n)
           ∣₁;
       counted = ∣ counted-root c.args.root c.in_ok-instances.ensures c.in_ok-origins.ensures ∣₁;
-      active = subst (λ (log : History). AreOfNodes log.nodes log.events) (sym parts.history)
+      active = subst (λ (history : History). AreOfNodes history.nodes history.events)
+          (sym parts.history)
           (let none = ap retires opening.events in let one = opening.nodes in omega arith);
       few = few-root c.args.root c.in_ok-instances.ensures;
       nested = ∣ nested-root c.args.root c.in_ok-origins.ensures ∣₁;

@@ -4,7 +4,7 @@ use Rattle.build_nodes.proofs.Active.{active-more, idle-now}
 use Rattle.build_nodes.proofs.Here.{assign-shown}
 use Rattle.build_nodes.proofs.Leaves.{untold-spent}
 use Rattle.build_nodes.proofs.Marks.{ahead, length-unmarked}
-use Rattle.build_nodes.proofs.core_turns.assign_least.Goals as goal
+use Rattle.build_nodes.proofs.core_turns.assign_next.Goals as goal
 
 pub give_answer-requires-clause-here : goal.give_answer-requires-clause-here
 give_answer-requires-clause-here g c =
