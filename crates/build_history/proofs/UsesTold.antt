@@ -243,7 +243,8 @@ module _ {P I A : Type 0} where
         let now : record { run = r.now.run; tools = r.now.so_far.tools }
         ≡ x = some-is (record { run = r.now.run; tools = r.now.so_far.tools }) x
         (sym (ap body_at r.is) ∙ h) in
-        let run_is : r.before.run ≡ x.run = sym r.same_run ∙ ap (λ (z : ToolsUsed I). z.run) now in (
+        let run_is : r.before.run ≡ x.run = sym r.same_run
+        ∙ ap (λ (z : ToolsUsed I). z.run) now in (
           r.more,
           ap (λ (z : ToolsUsed I). z.tools) (sym now)
               ∙ (r.grown ∙ ap (λ xs. xs ++ r.more) (sym was ∙ ap (λ k. uses_of k uses) run_is)),

@@ -85,10 +85,12 @@ pub then-comes : {P I S T : Type 0} (first : Option (Given P I S))
     (next : S → Journal → Option (Given P I T)) (v : S) (j : Journal) (u : T) (k : Journal) →
     Comes first v j → Comes (next v j) u k → Comes (followed first next) u k
 then-comes first next v j u k (x, e, p, q) (y, f, a, b) =
-    let g : next x.value x.journal ≡ Some y = ap (λ s. next s x.journal) p ∙ (ap (next v) q ∙ f) in (
+    let g : next x.value x.journal ≡ Some y = ap (λ s. next s x.journal) p
+    ∙ (ap (next v) q ∙ f) in (
       after x.demand y,
       ap
-          (λ o. and_then o (λ x. and_then (next x.value x.journal) (λ y. Some (after x.demand y)))) e
+          (λ o. and_then o (λ x. and_then (next x.value x.journal) (λ y. Some (after x.demand y))))
+          e
           ∙ ap (λ o. and_then o (λ y. Some (after x.demand y))) g,
       a,
       b,

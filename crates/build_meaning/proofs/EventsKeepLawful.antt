@@ -535,7 +535,8 @@ module _ {P I A : Type 0} (w : World P I A) where
         each = λ k q h.
             elim
             (at-put s.requests id
-            (in_body w (assigned node) old r go (run_on w.tools r b old.journal nothing_yet)) k q h) [
+            (in_body w (assigned node) old r go
+            (run_on w.tools r b old.journal nothing_yet)) k q h) [
               | inl p ↦
                   subst (λ n. LawfulRequest (new_one ∷ s.begun) s.table n q) (sym p.0)
                   (subst

@@ -245,7 +245,8 @@ module _ {P I A : Type 0} (w : World P I A) (D : Demanded P I → Type 0) where
         k,
         less d (length path) deepest h,
         walk-sound (request w d) path
-            (λ r. request-sound d (r ∷ path) (more d (length path) deepest h)) (w.walks key j) j [] x
+            (λ r. request-sound d (r ∷ path) (more d (length path) deepest h)) (w.walks key j) j []
+            x
             g all,
       ))
     where

@@ -18,7 +18,8 @@ abbrev pub out_of_memory : EvalFault
 out_of_memory = record { element = None; cause = Memory }
 
 abbrev pub text_at : ElementPlace → Text → Text
-text_at element cause = element.file ++ codes " " ++ shown_place element.place ++ codes ": " ++ cause
+text_at element cause = element.file ++ codes " " ++ shown_place element.place ++ codes ": "
+    ++ cause
 
 abbrev pub text_if : Option ElementPlace → Text → Text
 text_if (Some element) cause = text_at element cause

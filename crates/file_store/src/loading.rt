@@ -63,7 +63,8 @@ impl From<NoMemory> for LoadFault {
 /// limits too, whatever the store tells.
 pub fn load<S: Store>(alloc: Global, store: &mut S) -> Result<Tree, LoadFault>
     ensures whole { IfOk result (λ t. IfSome (S.seen store.old).tree (λ files. t.files ≡ files)) }
-    ensures within { IfOk result (λ t. OfListing (S.seen store.old).tree (IsLoaded (paths_of t.files))) }
+    ensures within { IfOk result
+        (λ t. OfListing (S.seen store.old).tree (IsLoaded (paths_of t.files))) }
     ensures limited { IfOk result (λ t. limit_fault (entries_of t.files) ≡ None) }
     ensures kept { (S.seen store.new).tree ≡ (S.seen store.old).tree }
     ensures later { (S.seen store.old).fault_count ≤ (S.seen store.new).fault_count }

@@ -64,7 +64,8 @@ pub trait Store {
             (λ b. IfSome (seen self.old).tree (λ t. b ≡ take most (bytes_at path.now t))) }
         ensures kept { (seen self.new).tree ≡ (seen self.old).tree }
         ensures cause { CountsFault (seen self.old) (seen self.new) result }
-        ensures kind { CountsRead path.now (seen self.old).failures (seen self.new).failures result };
+        ensures kind { CountsRead path.now (seen self.old).failures (seen self.new).failures
+            result };
 
     /// Gives a path just these bytes, in folders that are made as needed.
     fn write(&mut self, alloc: Global, path: &str, bytes: &[u8]) -> Result<(), StoreError>

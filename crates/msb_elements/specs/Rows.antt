@@ -125,7 +125,8 @@ row_of Project = record
     (codes "DefaultTargets" ∷ codes "InitialTargets" ∷ codes "TreatAsLocalProperty"
     ∷ codes "ToolsVersion" ∷ codes "xmlns" ∷ [])) {
       children = these
-          (PropertyGroup ∷ ItemGroup ∷ ItemDefinitionGroup ∷ Import ∷ ImportGroup ∷ Choose ∷ UsingTask
+          (PropertyGroup ∷ ItemGroup ∷ ItemDefinitionGroup ∷ Import ∷ ImportGroup ∷ Choose
+          ∷ UsingTask
           ∷ Target ∷ ProjectExtensions ∷ []);
     }
 row_of ProjectExtensions = record (fixed (codes "ProjectExtensions") [])
@@ -184,7 +185,8 @@ row_of Task = record
 row_of Output = record
     (fixed (codes "Output")
     (codes "TaskParameter" ∷ codes "ItemName" ∷ codes "PropertyName" ∷ condition)) {
-      needs = need (codes "TaskParameter" ∷ []) ∷ need (codes "ItemName" ∷ codes "PropertyName" ∷ [])
+      needs = need (codes "TaskParameter" ∷ [])
+          ∷ need (codes "ItemName" ∷ codes "PropertyName" ∷ [])
           ∷ [];
       clashes = clash (codes "ItemName") (codes "PropertyName") ∷ [];
       values = record { attribute = codes "ItemName"; may_follow = is_name_byte }

@@ -435,7 +435,8 @@ property_calls parts base named name h n = λ text call c m others more o.
     ≡ ((base ++ 36 ∷ 40 ∷ (named ++ 46 ∷ [])) ++ text) ++ (others ++ 41 ∷ []) =
     simp append_assoc in
     subst (λ t. FreshParts (parts ++ Func (Some name) (call ∷ more) ∷ []) t) split
-    (part-added parts base (36 ∷ 40 ∷ (function ++ 41 ∷ [])) (Func (Some name) (call ∷ more)) refl h (
+    (part-added parts base (36 ∷ 40 ∷ (function ++ 41 ∷ [])) (Func (Some name) (call ∷ more))
+    refl h (
       function,
       (
         named,

@@ -123,10 +123,11 @@ in-has r m (e ∷ j) (inr p) = or_right (same_mark (mark e) (end_of r)) (has (en
 pub has-in : (r : RunId) (j : Journal) → Has (end_of r) j → (m : Record) × In (ended r m) j
 has-in r [] h = absurd (cc)
 has-in r (acted s n p ∷ j) h = let x = has-in r j h in (x.0, inr x.1)
-has-in r (ended s m ∷ j) h = elim (or_cases (same_mark (end_of s) (end_of r)) (has (end_of r) j) h) [
-  | inl p ↦ (m, inl (ap (λ t. ended t m) (same_run-true s r p)))
-  | inr p ↦ let x = has-in r j p in (x.0, inr x.1)
-]
+has-in r (ended s m ∷ j) h = elim
+    (or_cases (same_mark (end_of s) (end_of r)) (has (end_of r) j) h) [
+      | inl p ↦ (m, inl (ap (λ t. ended t m) (same_run-true s r p)))
+      | inr p ↦ let x = has-in r j p in (x.0, inr x.1)
+    ]
 
 pub HasAll-mono : (items : List Effect) (j k : Journal) → ((s : Mark) → Has s j → Has s k)
     → HasAll items j → HasAll items k

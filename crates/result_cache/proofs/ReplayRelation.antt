@@ -187,7 +187,8 @@ module _ (P : RunId → Record → Type 0) (one : (r : RunId) (m n : Record) →
         | inr t ↦ f s t
       ]
 
-      pub reps-within : {xs : List Effect} {j k : Journal} → Reps P xs j k → (y : Journal) → Closed y
+      pub reps-within : {xs : List Effect} {j k : Journal} → Reps P xs j k → (y : Journal)
+          → Closed y
           → ((s : Mark) → Has s j → Has s y) → HasAll xs y → (s : Mark) → Has s k → Has s y
       reps-within none y c f p s q = f s q
       reps-within (also d e) y c f p s q = reps-within e y c (rep-within d y c f p.0) p.1 s q
@@ -244,7 +245,8 @@ module _ (P : RunId → Record → Type 0) (one : (r : RunId) (m n : Record) →
       rep-one (new h u c) l (old g) = absurd (cc)
       rep-one (new {r} {j} {k} {m} h u c) l (new {k = i} {m = n} g v d) =
           let e : n ≡ m = one r n m v u in
-          let d2 : Reps P (effects_of r m) j i = subst (λ (x : Record). Reps P (effects_of r x) j i) e
+          let d2 : Reps P (effects_of r m) j i = subst (λ (x : Record). Reps P (effects_of r x) j i)
+          e
           d in
           let q : k ≡ i = reps-one c i d2 in cc
       rep-one puts l puts = refl

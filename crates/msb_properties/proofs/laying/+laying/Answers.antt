@@ -153,7 +153,8 @@ lay_file-returns-in_err-root-clause-laid t c =
     let found : file_at c.args.path.now c.args.setting.now.tree.now.files
     ≡ Some c.in-Some.file.now = ap (λ p. file_at p c.args.setting.now.tree.now.files)
     (sym c.as_str.ensures) ∙ sym c.in-Some.ensures in
-    let p = err_from_is_err_and c.from_residual-in_err-root.result c.from_residual-in_err-root.ensures.1 in
+    let p = err_from_is_err_and c.from_residual-in_err-root.result
+    c.from_residual-in_err-root.ensures.1 in
     rw (p.1, p.2)
     (passed_on (λ (f : EvalFault). f.cause) c.in_err-root.field-0.0 _ _
     (λ f is. step.file_stops (seen_setting c.args.setting.now) c.args.chain.now c.args.path.now

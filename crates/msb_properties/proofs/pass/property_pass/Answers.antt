@@ -10,7 +10,8 @@ use Rattle.msb_properties.proofs.pass.property_pass.Goals as goal
 
 pub returns-in_err-lay_own : goal.returns-in_err-lay_own
 returns-in_err-lay_own c =
-    let p = err_from_is_err_and c.from_residual-in_err-lay_own.result c.from_residual-in_err-lay_own.ensures.1 in
+    let p = err_from_is_err_and c.from_residual-in_err-lay_own.result
+    c.from_residual-in_err-lay_own.ensures.1 in
     rw (p.1, p.2)
     (passed_on (λ (f : EvalFault). f.cause) c.in_err-lay_own.field-0.0 _ _
     (λ f is. pass_stops (setting c.args.tree.now.files c.args.key.now) []

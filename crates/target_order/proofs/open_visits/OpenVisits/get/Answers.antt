@@ -43,7 +43,8 @@ bounds-as_slice-at-then-at-outer c =
     (at_chunk 32 (omega arith) outer c.self.invariant.full at below)
     (c.index-as_slice-at.is ∙ ap (λ cs. get_or cs (at / 32) c.index-as_slice-at.result) held) []
     in
-    subst (λ xs. at % 32 < length xs) (sym (c.as_slice-then-at-outer.ensures ∙ (c.get-then-at-outer.ensures ∙ chunk)))
+    subst (λ xs. at % 32 < length xs)
+    (sym (c.as_slice-then-at-outer.ensures ∙ (c.get-then-at-outer.ensures ∙ chunk)))
     (in_chunk 32 (omega arith) outer c.self.invariant.full at below)
 
 pub returns-then-at-outer : goal.returns-then-at-outer
