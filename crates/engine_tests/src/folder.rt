@@ -1,6 +1,7 @@
 //! The store of a real folder, at what a build does not ask of it.
 use crate::runs::{is_number, is_so};
-use file_store::{DirStore, Store, StoreError};
+use file_store::{Store, StoreError};
+use host_files::DirStore;
 use msb_values::{NoMemory, Text8};
 use std::alloc::Global;
 use std::path::PathBuf;

@@ -17,7 +17,7 @@ const MOST_FILE_BYTES: u64 = 16_777_216;
 
 /// Refuses a listing that passes a limit. The number of files is looked at first, then their bytes
 /// in all, and then each entry in order.
-pub(crate) fn check_limits(alloc: Global, entries: &[Entry]) -> Result<(), LoadFault>
+pub fn check_limits(alloc: Global, entries: &[Entry]) -> Result<(), LoadFault>
     ensures { Tells (limit_fault entries.now) result }
 {
     if entries.len() > MOST_FILES {

@@ -1,7 +1,7 @@
 //! The program `msb`: its words, the current folder and standard output, handed to the top call.
 #![tactic(auto)]
 
-use file_store::{DirStore, OutSink};
+use host_files::{DirStore, OutSink};
 use msb_program::run;
 use std::alloc::Global;
 use std::process::ExitCode;

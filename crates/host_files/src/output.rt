@@ -1,6 +1,6 @@
 ghost use Rattle.std.specs.Prelude.{◌≡◌, None};
 
-use crate::{Sink, SinkError};
+use file_store::{Sink, SinkError};
 use std::io::{self, Write};
 
 /// Standard output. It tells nothing.

@@ -3,11 +3,10 @@ ghost use Rattle.msb_laws.specs.Faults.{Rose};
 ghost use Rattle.file_store.specs.Entries.{are_listed_in_order};
 ghost use Rattle.file_store.specs.Failed.{counted};
 
-use crate::limits::check_limits;
 use crate::listing::{Found, Held, list_folder, read_found, take_or_read};
 use crate::removing::remove_file;
 use crate::writing::write_file;
-use crate::{Entry, Store, StoreError};
+use file_store::{Entry, Store, StoreError, check_limits};
 use msb_values::{Copied, List, NoMemory, Text, Text8};
 use std::alloc::Global;
 use std::collections::BTreeMap;

@@ -2,7 +2,7 @@ use Rattle.std.proofs.Common.{rules, map, ◌≡◌}
 use Rattle.std.specs.Map.Iter.{deref_pair}
 use Rattle.std.proofs.lemmas.Map.Iter.{iter_end}
 use Rattle.file_store.proofs.Listed.{are_rising-shown}
-use Rattle.file_store.proofs.folder.entries_of.Goals as goal
+use Rattle.host_files.proofs.folder.entries_of.Goals as goal
 
 pub returns : goal.returns
 returns c =
