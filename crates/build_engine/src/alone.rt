@@ -13,11 +13,13 @@ use build_scheduler::{Core, Walker};
 use msb_values::NoMemory;
 use result_cache::RequestKey;
 use std::alloc::Global;
+use std::mem;
 
 /// Builds the request of a walk that had no answer yet, on one node, and tells what the build
 /// prints and writes. The build's history takes the least ready request each time, and the tools at
-/// the place are used as it has it; after want of memory their uses begin with those of before.
-/// (MSBuild command-line reference, -maxCpuCount.)
+/// the place are used as it has it; after want of memory their uses begin with those of before. What
+/// the build has made is not given back piece by piece, which would take a tenth of its time: the
+/// process keeps it. (MSBuild command-line reference, -maxCpuCount.)
 pub fn build_on_one<W: Walker>(
     alloc: Global,
     key: RequestKey,
@@ -40,5 +42,7 @@ pub fn build_on_one<W: Walker>(
 {
     let mut core = Core::new_boxed(alloc, key, walk)?;
     build_alone(&mut core, place);
-    Outcome::of(alloc, &core, low)
+    let outcome = Outcome::of(alloc, &core, low);
+    mem::forget(core);
+    outcome
 }

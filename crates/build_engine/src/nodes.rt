@@ -12,12 +12,15 @@ use build_scheduler::{Core, Walker};
 use msb_values::NoMemory;
 use result_cache::RequestKey;
 use std::alloc::Global;
+use std::mem;
 use std::sync::Wait;
 use std::thread::Threads;
 
 /// Builds the request of a walk that had no answer yet, on a node for each place, of which there
 /// are 1 to 64, and tells what the build prints and writes. Where a node wants memory, it retires
-/// and another one goes on; one at least stays. (MSBuild command-line reference, -maxCpuCount.)
+/// and another one goes on; one at least stays. What the build has made is not given back piece by
+/// piece, which would take a tenth of its time: the process keeps it. (MSBuild command-line
+/// reference, -maxCpuCount.)
 pub fn build_on_many<R: Threads + Wait + Sync, W: Walker + Send>(
     rt: &R,
     alloc: Global,
@@ -41,5 +44,7 @@ where
 {
     let core = Core::new_boxed(alloc, key, walk)?;
     let built = build_with(rt, alloc, core, places)?;
-    Outcome::of(alloc, &built, low)
+    let outcome = Outcome::of(alloc, &built, low);
+    mem::forget(built);
+    outcome
 }

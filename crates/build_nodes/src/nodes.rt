@@ -36,8 +36,8 @@ use build_scheduler::{Core, Walker};
 use msb_values::NoMemory;
 use std::alloc::Global;
 use std::sync::Wait;
-use std::thread;
 use std::thread::Threads;
+use std::{mem, thread};
 use turn_board::{Board, Seat, Taken};
 
 /// One node of several.
@@ -350,7 +350,8 @@ where
     all
 }
 
-/// Joins the seat of a node that has left.
+/// Joins the seat of a node that has left. Its place is not given back piece by piece, as nothing is
+/// that a build has made.
 fn join_one<W: Walker + Send>(board: &Board<Shared<W>>, seat: &mut Seat<Shared<W>>, node: Node<W>)
 where
     W::Place: Send + Drop,
@@ -368,8 +369,9 @@ where
     let Node {
         number: _,
         seat: other,
-        place: _,
+        place,
     } = node;
+    mem::forget(place);
     board.join(seat, other);
 }
 

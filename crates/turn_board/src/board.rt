@@ -54,8 +54,8 @@ pub struct Board<S: Histories> {
 }
 
 /// How often a thread looks whether the state is home before it sleeps: for some microseconds,
-/// since most turns have the state out no longer.
-const LOOKS: u32 = 64;
+/// since most turns have the state out no longer. A look takes about a nanosecond.
+const LOOKS: u32 = 8_192;
 
 impl<S: Histories> Model for Board<S> {
     ghost use Rattle.std.specs.Prelude.{◌≡◌};
