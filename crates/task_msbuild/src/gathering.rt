@@ -1,4 +1,4 @@
-ghost use Rattle.std.specs.Prelude.{◌≡◌, ◌≤◌, ◌++◌, IfOk, OnOk, length};
+ghost use Rattle.std.specs.Prelude.{◌≡◌, ◌≤◌, ◌++◌, [], IfOk, OnOk, length};
 ghost use Rattle.std.specs.List.{flat_map, list_all, zip};
 ghost use Rattle.task_msbuild.specs.Gathered.{
   gathered,
@@ -34,14 +34,41 @@ pub fn gather(
 {
     let calls = plan.calls.as_slice();
     let results = results.as_slice();
-    let mut notes = plan.notes.copy()?;
-    notes.append(failures(alloc, calls, results)?)?;
     Ok(TaskOutput {
         ok: plan.ok && all_succeeded(results),
         outputs: target_outputs(alloc, items(alloc, calls, results)?)?,
         acts: List::new(alloc),
-        notes,
+        notes: all_notes(alloc, plan, results)?,
     })
+}
+
+/// The same without TargetOutputs, for a task element that takes none. (MSBuild task:
+/// TargetOutputs.)
+pub fn gather_without_outputs(
+    alloc: Global,
+    plan: &Plan,
+    results: &List<RequestResult>,
+) -> Result<TaskOutput, NoMemory>
+    requires { length results.now ≤ length plan.now.calls }
+    ensures { IfOk result
+        (λ output. output ≡ record (gathered plan.now results.now) { outputs = [] }) }
+{
+    let results = results.as_slice();
+    Ok(TaskOutput {
+        ok: plan.ok && all_succeeded(results),
+        outputs: List::new(alloc),
+        acts: List::new(alloc),
+        notes: all_notes(alloc, plan, results)?,
+    })
+}
+
+/// The notes of the plan, and then those of the calls that failed.
+fn all_notes(alloc: Global, plan: &Plan, results: &[RequestResult]) -> Result<List<Note>, NoMemory>
+    ensures { IfOk result (λ notes. notes ≡ (gathered plan.now results.now).notes) }
+{
+    let mut notes = plan.notes.copy()?;
+    notes.append(failures(alloc, plan.calls.as_slice(), results)?)?;
+    Ok(notes)
 }
 
 fn target_outputs(alloc: Global, items: List<Item>) -> Result<List<Param>, NoMemory>

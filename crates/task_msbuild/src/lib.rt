@@ -16,6 +16,6 @@ mod plans;
 mod project;
 mod properties;
 
-pub use gathering::gather;
+pub use gathering::{gather, gather_without_outputs};
 pub use planning::plan;
 pub use plans::Plan;
