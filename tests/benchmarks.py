@@ -1,7 +1,8 @@
 #!/usr/bin/env python3
 """Runs bench/compare.py on small sets: each program has to write the outputs of each set, and once.
-Runs bench/checks.py on small diamonds, each of which has to be steady, with its number of bodies,
-and bench/imports.py on two projects, which have to print the property that they import.
+Runs bench/scaling.py on small sets, bench/checks.py on small diamonds, each of which has to be
+steady, with its number of bodies, and bench/imports.py on two projects, which have to print the
+property that they import.
 
 usage: tests/benchmarks.py PROGRAM
 
@@ -43,6 +44,20 @@ def compare(program: str, shape: str) -> str:
     return ""
 
 
+def scaling(program: str) -> str:
+    """What is wrong with builds on several nodes beside builds on one, or nothing."""
+    with tempfile.TemporaryDirectory() as folder:
+        words = [TOP / "bench" / "scaling.py", program, "--size", "26", "--nodes", "3",
+                 "--rounds", "1", "--folder", folder]
+        ran = subprocess.run([sys.executable, "-B", *words], stdin=subprocess.DEVNULL, text=True,
+                             stdout=subprocess.PIPE, stderr=subprocess.STDOUT, timeout=SECONDS)
+    ways = ("1 node", "3 nodes", "3 side by side")
+    rows = [rf"^\| {shape} +\| {way} +\| [0-9.]+ " for shape in SHAPES[:3] for way in ways]
+    if ran.returncode or any(len(re.findall(row, ran.stdout, re.M)) != 1 for row in rows):
+        return f"status {ran.returncode}\n{ran.stdout}"
+    return ""
+
+
 def check(program: str) -> str:
     """What is wrong with the checks of diamonds, or nothing."""
     words = [TOP / "bench" / "checks.py", program, *map(str, LAYERS)]
@@ -75,6 +90,7 @@ def main() -> int:
         print("usage: tests/benchmarks.py PROGRAM", file=sys.stderr)
         return 2
     wrong = {shape: compare(sys.argv[1], shape) for shape in SHAPES}
+    wrong["builds side by side"] = scaling(sys.argv[1])
     wrong["checks of diamonds"] = check(sys.argv[1])
     wrong["imports"] = imports(sys.argv[1])
     for shape, told in wrong.items():
