@@ -1,5 +1,18 @@
-ghost use Rattle.std.specs.Prelude.{◌≡◌, ◌<◌, [], ◌∷◌, ◌++◌, not, length, map, IfOk, IfSome, OnOk};
-ghost use Rattle.std.specs.List.{flat_map, position};
+ghost use Rattle.std.specs.Prelude.{
+  ◌≡◌,
+  ◌<◌,
+  [],
+  ◌∷◌,
+  ◌++◌,
+  not,
+  length,
+  map,
+  true,
+  IfOk,
+  IfSome,
+  OnOk,
+};
+ghost use Rattle.std.specs.List.{flat_map, list_all, position};
 ghost use Rattle.task_msbuild.specs.Calls.{
   is_there,
   through_missing,
@@ -57,20 +70,44 @@ fn first_missing(tree: &Tree, projects: &[Project]) -> Option<usize>
     projects.iter().position(|project| !is_there(tree, project))
 }
 
-/// The requests that the task calls: those of each project that is looked up and is there. (MSBuild
-/// task.)
+/// The requests that the task calls: those of each project that is looked up and is there. Where all
+/// are known to be there, their files aren't looked up once more. (MSBuild task.)
 pub(crate) fn all_calls(
     alloc: Global,
     tree: &Tree,
     globals: &Pairs,
     parameters: &Parameters,
+    all_there: bool,
 ) -> Result<List<RequestKey>, NoMemory>
+    requires { all_there ≡ true →
+        list_all (is_there tree.now.files) (looked_up tree.now.files parameters.now) ≡ true }
     ensures { IfOk result (λ calls. calls ≡ all_calls tree.now.files globals.now parameters.now) }
 {
     let shared = shared_globals(globals, parameters)?;
     let lists = target_lists(alloc, parameters)?;
     let projects = look_up(tree, parameters);
+    if all_there {
+        return calls_of_all(alloc, &shared, lists.as_slice(), projects);
+    }
     calls_of(alloc, tree, &shared, lists.as_slice(), projects)
+}
+
+/// The requests of these projects, all of which are there, in order.
+fn calls_of_all(
+    alloc: Global,
+    shared: &Pairs,
+    lists: &[List<Name>],
+    projects: &[Project],
+) -> Result<List<RequestKey>, NoMemory>
+    ensures { IfOk result (λ calls. calls
+        ≡ flat_map (λ project. map (request_of (instance_of shared.now project)) lists.now)
+        projects.now) }
+{
+    let mut calls = List::new(alloc);
+    for project in projects {
+        push_calls(&mut calls, &instance(alloc, shared, project)?, lists)?;
+    }
+    Ok(calls)
 }
 
 /// The requests of those of these projects that are there, in order, with these global properties

@@ -1,4 +1,4 @@
-ghost use Rattle.std.specs.Prelude.{◌≡◌, ◌++◌, IfOk, OnOk};
+ghost use Rattle.std.specs.Prelude.{◌≡◌, ◌++◌, ◌==◌, ◌&&◌, length, not, IfOk, OnOk};
 ghost use Rattle.task_msbuild.specs.Plans.{
   refused,
   missing_notes,
@@ -54,13 +54,21 @@ fn plan_calls(
     ensures { IfOk result (λ plan. plan ≡ planned tree.now.files globals.now parameters.now) }
 {
     let notes = missing_notes(alloc, tree, parameters)?;
+    let all_there = are_all_there(&notes, parameters);
     Ok(Plan {
-        calls: all_calls(alloc, tree, globals, parameters)?,
+        calls: all_calls(alloc, tree, globals, parameters, all_there)?,
         parallel: parameters.parallel,
         stop_first: parameters.stop_first && !parameters.parallel,
         ok: notes.is_empty(),
         notes,
     })
+}
+
+// Whether the notes on missing projects show that all are there: one that is passed over has none.
+fn are_all_there(notes: &List<Note>, parameters: &Parameters) -> bool
+    ensures { result ≡ ((length notes.now == 0) && not parameters.now.skip_missing) }
+{
+    notes.is_empty() && !parameters.skip_missing
 }
 
 fn refuse(alloc: Global, failure: &Failure) -> Result<Plan, NoMemory>
