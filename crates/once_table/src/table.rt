@@ -1,0 +1,179 @@
+ghost use Rattle.std.specs.Prelude.{◌≡◌, [], Some, true, false, IfNone, IfOk, IfSome};
+ghost use Rattle.once_table.specs.Looked.{IfMade};
+
+use crate::Fits;
+use crate::values::{Look, Values};
+use msb_values::{Copied, NoMemory, Shared};
+use std::alloc::Global;
+use std::hash::Hash;
+use std::marker::Model;
+use std::snapshot::Snapshot;
+use std::thread;
+use turn_board::{Board, Seat, Taken};
+
+/// A thread's access to values by keys, which it shares with other threads. Contracts see the world
+/// in which the values fit their keys.
+///
+/// No clause says that a value is made once, nor that a thread gets on.
+pub struct OnceTable<K: Eq + Hash + Drop, V: Drop, W, F: Fits<K, V, W>> {
+    board: Shared<Board<Values<K, V, W, F>>>,
+    seat: Seat<Values<K, V, W, F>>,
+    world: Snapshot<W>,
+    /// How many more threads may be given access by this one.
+    left: u32,
+}
+
+// A drop that is written out is proved here alone.
+impl<K: Eq + Hash + Drop, V: Drop, W, F: Fits<K, V, W>> Drop for OnceTable<K, V, W, F> {
+    fn drop(self) {
+        let OnceTable {
+            board: _,
+            seat: _,
+            world: _,
+            left: _,
+        } = self;
+    }
+}
+
+impl<K: Eq + Hash + Drop, V: Drop, W, F: Fits<K, V, W>> Model for OnceTable<K, V, W, F> {
+    ghost use Rattle.std.specs.Prelude.{◌≡◌, ◌+◌, Some, false};
+
+    ghost Value = { W };
+
+    ghost view = { λ t. t.world.value };
+
+    ghost invariant = { λ t. (t.seat.board ≡ t.board) × (t.seat.has_state ≡ false)
+        × (t.seat.world ≡ Some t.world.value) × (t.seat.share ≡ t.left + 1) };
+}
+
+/// How many threads the thread that opens a table may give access to.
+const MOST_OTHERS: u32 = 127;
+
+impl<
+    K: Eq + Hash + Copied + Drop + Send,
+    V: Copied + Drop + Send,
+    W,
+    F: Fits<K, V, W> + Send,
+> OnceTable<K, V, W, F> {
+    /// A table of no values, for this world.
+    pub fn open(alloc: Global, world: &W) -> Result<OnceTable<K, V, W, F>, NoMemory>
+        ensures { IfOk result (λ table. table ≡ world.now) }
+    {
+        match Board::open(alloc, Values::new(alloc, world)) {
+            Ok((board, seat)) => Ok(OnceTable {
+                board: Shared::new(alloc, board)?,
+                seat,
+                world: Snapshot::of(world),
+                left: MOST_OTHERS,
+            }),
+            Err(refused) => {
+                drop(refused);
+                Err(NoMemory)
+            }
+        }
+    }
+
+    /// Access for another thread; none where no more can be given.
+    pub fn split(&mut self, world: &W) -> Result<Option<OnceTable<K, V, W, F>>, NoMemory>
+        requires { world.now ≡ self.old }
+        ensures other { IfOk result (λ other. IfSome other (λ table. table ≡ self.old)) }
+        ensures kept { self.new ≡ self.old }
+    {
+        if self.left == 0 {
+            return Ok(None);
+        }
+        let board = self.board.copy()?;
+        let seat = board.get().split(&mut self.seat);
+        self.left -= 1;
+        Ok(Some(OnceTable {
+            board,
+            seat,
+            world: Snapshot::of(world),
+            left: 0,
+        }))
+    }
+
+    /// The value of a key, or nothing: then this thread is the one that makes it, and has to put it
+    /// or to give it up. Where another thread makes it just now, this call waits for that.
+    pub fn find(&mut self, key: &K) -> Result<Option<V>, NoMemory>
+        ensures fits { IfOk result
+            (λ found. IfSome found (λ value. ∥ F.fits self.old key.now value ∥₁)) }
+        ensures kept { self.new ≡ self.old }
+    {
+        for _ in 0..u64::MAX {
+            match self.look(key)? {
+                Look::Made(value) => return Ok(Some(value)),
+                Look::Missing => return Ok(None),
+                Look::Making => pause(),
+            }
+        }
+        Ok(None)
+    }
+
+    fn look(&mut self, key: &K) -> Result<Look<V>, NoMemory>
+        ensures fits { IfOk result (IfMade (λ value. ∥ F.fits self.old key.now value ∥₁)) }
+        ensures kept { self.new ≡ self.old }
+    {
+        let Some(mut values) = take(self.board.get(), &mut self.seat) else {
+            return Ok(Look::Making);
+        };
+        let look = values.look(key);
+        self.board.get().give(&mut self.seat, values);
+        look
+    }
+
+    /// Puts the value of a key, which this thread has made. Where there is no memory for that, it
+    /// is given up.
+    pub fn put(&mut self, key: &K, value: &V) -> Result<(), NoMemory>
+        requires { F.fits self.old key.now value.now }
+        ensures { self.new ≡ self.old }
+    {
+        let Some(mut values) = take(self.board.get(), &mut self.seat) else {
+            return Ok(());
+        };
+        let put = values.put(key, value);
+        self.board.get().give(&mut self.seat, values);
+        put
+    }
+
+    /// Leaves it to others to make the value of a key.
+    pub fn give_up(&mut self, key: &K)
+        ensures { self.new ≡ self.old }
+    {
+        if let Some(mut values) = take(self.board.get(), &mut self.seat) {
+            values.give_up(key);
+            self.board.get().give(&mut self.seat, values);
+        }
+    }
+}
+
+/// Takes the values, once no other thread has them. Nothing comes only after 2^64 takes in vain.
+fn take<K: Eq + Hash + Copied + Drop + Send, V: Copied + Drop + Send, W, F: Fits<K, V, W> + Send>(
+    board: &Board<Values<K, V, W, F>>,
+    seat: &mut Seat<Values<K, V, W, F>>,
+) -> Option<Values<K, V, W, F>>
+    requires board { seat.old.board ≡ board.now }
+    requires home { seat.old.has_state ≡ false }
+    ensures same { (seat.new.board ≡ seat.old.board) × (seat.new.world ≡ seat.old.world)
+        × (seat.new.share ≡ seat.old.share) }
+    ensures home { IfNone result (seat.new.has_state ≡ false) }
+    ensures out { IfSome result (λ values. (seat.new.has_state ≡ true)
+        × (seat.old.world ≡ Some values.world.value) × (seat.new.seen ≡ [])) }
+{
+    for _ in 0..u64::MAX {
+        match board.take(seat) {
+            Taken::State(values) => return Some(values),
+            Taken::Held => thread::yield_now(),
+        }
+    }
+    None
+}
+
+/// How often a thread that waits for a value lets others go first before it looks again.
+const YIELDS: u32 = 32;
+
+fn pause() {
+    for _ in 0..YIELDS {
+        thread::yield_now();
+    }
+}
