@@ -7,17 +7,19 @@ ghost use Rattle.build_scheduler.specs.Shown.{is_ready};
 use crate::request_set::RequestSet;
 use crate::slot::Slot;
 use std::alloc::Global;
-use std::collections::VecDeque;
 use std::mem;
 
-/// Requests in the order in which they became ready, without those that are held back.
+/// Requests that became ready, the next one last, without those that are held back.
 ///
-/// A new request is held back while an earlier one of its instance is not over, since it is most
-/// often over at once by what that one gives. Nodes that find nothing else to do take it sooner. So
-/// this is advice: no contract goes by it, and where there is no memory, a request is not listed.
-/// (MSBuild task: a target is run once.)
+/// The one that became ready last is the next: most often the node that takes it has just made it
+/// ready, as a call of its request or as the caller of one that is over, and has at hand what it
+/// needs. So calls are followed in depth, and few requests are begun and not over. A new request is
+/// held back while an earlier one of its instance is not over, since it is most often over at once
+/// by what that one gives. Nodes that find nothing else to do take it sooner. So this is advice: no
+/// contract goes by it, and where there is no memory, a request is not listed. (MSBuild task: a
+/// target is run once.)
 pub struct Preferred {
-    numbers: VecDeque<u64>,
+    numbers: Vec<u64>,
     /// By the places of the instances.
     instances: Vec<InstanceRequests>,
 }
@@ -69,14 +71,14 @@ impl InstanceRequests {
 impl Preferred {
     pub(crate) fn new(alloc: Global) -> Preferred {
         Preferred {
-            numbers: VecDeque::new(alloc),
+            numbers: Vec::new(alloc),
             instances: Vec::new(alloc),
         }
     }
 
     /// Lists a request that has become ready.
     pub(crate) fn list(&mut self, number: u64) {
-        let _ = self.numbers.push_back(number);
+        let _ = self.numbers.push(number);
     }
 
     /// Lists the requests of a set, which become ready.
@@ -145,7 +147,7 @@ impl Preferred {
         ensures { IfSome result (λ id. is_ready (at slots.now.items id) ≡ true) }
     {
         for _ in 0..self.numbers.len() {
-            let number = self.numbers.pop_front()?;
+            let number = self.numbers.pop()?;
             if is_ready(slots, number) {
                 return Some(number);
             }
