@@ -27,13 +27,13 @@ returns-clause-place g c =
 pub returns-clause-outcome : goal.returns-clause-outcome
 returns-clause-outcome g c =
     let core = c.build_alone.new.core in
-    subst (λ (w : World g.W.Walker.Site g.W.Walker.Input g.W.Walker.Output). IfOk c.of.result
+    subst (λ (w : World g.W.Walker.Site g.W.Walker.Input g.W.Walker.Output). IfOk c.of-outcome.result
     (λ o. ∥ IsOutcome w c.args.low o ∥₁)) (c.build_alone.ensures.world ∙ c.in_ok-core.ensures.world)
     (outcomes_are (g.W.Walker.world_of core.world) c.args.low core.history.events core.end
-    c.of.result c.build_alone.ensures.legal c.of.ensures.outcome)
+    c.of-outcome.result c.build_alone.ensures.legal c.of-outcome.ensures.outcome)
 
 pub returns-clause-status : goal.returns-clause-status
-returns-clause-status g c = known_statuses c.of.result c.of.ensures.status
+returns-clause-status g c = known_statuses c.of-outcome.result c.of-outcome.ensures.status
 
 pub returns-clause-used : goal.returns-clause-used
 returns-clause-used g c =
@@ -43,14 +43,14 @@ returns-clause-used g c =
     let from = m.used c.args.place.now in
     let to = m.used c.build_alone.new.place in
     let same = c.build_alone.ensures.world in
-    subst (λ (w : World m.Site m.Input m.Output). IfOk c.of.result
+    subst (λ (w : World m.Site m.Input m.Output). IfOk c.of-outcome.result
     (λ o. ∥ IsUsedFor w c.args.low o from to ∥₁)) c.in_ok-core.ensures.world
     (all_used_for (m.world_of first.world) c.args.low first.history.events core.history.events
-    core.end c.of.result from to c.in_ok-core.ensures.history
+    core.end c.of-outcome.result from to c.in_ok-core.ensures.history
     (subst (λ (w : World m.Site m.Input m.Output). ∥ IsLegal w core.history.events ∥₁) same
     c.build_alone.ensures.legal) c.build_alone.ensures.least c.build_alone.ensures.uses
-    (subst (λ (w : World m.Site m.Input m.Output). IfOk c.of.result
-    (λ o. ∥ IsOutcomeAt w c.args.low core.history.events core.end o ∥₁)) same c.of.ensures.outcome))
+    (subst (λ (w : World m.Site m.Input m.Output). IfOk c.of-outcome.result
+    (λ o. ∥ IsOutcomeAt w c.args.low core.history.events core.end o ∥₁)) same c.of-outcome.ensures.outcome))
 
 pub returns-clause-front : goal.returns-clause-front
 returns-clause-front g c = c.build_alone.ensures.front

@@ -15,8 +15,8 @@ returns-clause-outcome g c =
     let core = c.in_ok-core.core in
     let built = c.in_ok-built.built in
     outcome_of_core (m.seen c.args.walk).world (m.world_of core.world) (m.world_of built.world)
-    c.args.low built.history.events built.end c.of.result c.in_ok-core.ensures.world
-    c.in_ok-built.ensures.world c.in_ok-built.ensures.legal c.of.ensures.outcome
+    c.args.low built.history.events built.end c.of-outcome.result c.in_ok-core.ensures.world
+    c.in_ok-built.ensures.world c.in_ok-built.ensures.legal c.of-outcome.ensures.outcome
 
 pub returns-clause-nodes : goal.returns-clause-nodes
 returns-clause-nodes g c =
@@ -24,9 +24,9 @@ returns-clause-nodes g c =
     let core = c.in_ok-core.core in
     let built = c.in_ok-built.built in
     outcome_on_core (m.seen c.args.walk).world (m.world_of core.world) (m.world_of built.world)
-    (vec_len c.args.places) c.args.low built.history.events built.end c.of.result
+    (vec_len c.args.places) c.args.low built.history.events built.end c.of-outcome.result
     c.in_ok-core.ensures.world c.in_ok-built.ensures.world c.in_ok-built.ensures.legal
-    c.in_ok-built.ensures.few c.of.ensures.outcome
+    c.in_ok-built.ensures.few c.of-outcome.ensures.outcome
 
 pub returns-clause-status : goal.returns-clause-status
-returns-clause-status g c = known_statuses c.of.result c.of.ensures.status
+returns-clause-status g c = known_statuses c.of-outcome.result c.of-outcome.ensures.status
