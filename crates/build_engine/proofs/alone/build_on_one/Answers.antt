@@ -27,8 +27,9 @@ returns-clause-place g c =
 pub returns-clause-outcome : goal.returns-clause-outcome
 returns-clause-outcome g c =
     let core = c.build_alone.new.core in
-    subst (λ (w : World g.W.Walker.Site g.W.Walker.Input g.W.Walker.Output). IfOk c.of-outcome.result
-    (λ o. ∥ IsOutcome w c.args.low o ∥₁)) (c.build_alone.ensures.world ∙ c.in_ok-core.ensures.world)
+    subst (λ (w : World g.W.Walker.Site g.W.Walker.Input g.W.Walker.Output).
+    IfOk c.of-outcome.result (λ o. ∥ IsOutcome w c.args.low o ∥₁))
+    (c.build_alone.ensures.world ∙ c.in_ok-core.ensures.world)
     (outcomes_are (g.W.Walker.world_of core.world) c.args.low core.history.events core.end
     c.of-outcome.result c.build_alone.ensures.legal c.of-outcome.ensures.outcome)
 
@@ -50,7 +51,8 @@ returns-clause-used g c =
     (subst (λ (w : World m.Site m.Input m.Output). ∥ IsLegal w core.history.events ∥₁) same
     c.build_alone.ensures.legal) c.build_alone.ensures.least c.build_alone.ensures.uses
     (subst (λ (w : World m.Site m.Input m.Output). IfOk c.of-outcome.result
-    (λ o. ∥ IsOutcomeAt w c.args.low core.history.events core.end o ∥₁)) same c.of-outcome.ensures.outcome))
+    (λ o. ∥ IsOutcomeAt w c.args.low core.history.events core.end o ∥₁)) same
+    c.of-outcome.ensures.outcome))
 
 pub returns-clause-front : goal.returns-clause-front
 returns-clause-front g c = c.build_alone.ensures.front
