@@ -4,8 +4,11 @@ use Rattle.std.proofs.Common.{
   ◌∙◌,
   ◌++◌,
   ◌==◌,
+  ◌&&◌,
   ◌<◌,
   ℕ,
+  zero,
+  suc,
   List,
   [],
   ◌∷◌,
@@ -16,17 +19,23 @@ use Rattle.std.proofs.Common.{
   Ok,
   Err,
   IfOk,
+  arith,
   eqb-true,
   ap,
+  map,
+  not,
+  refl,
   sym,
   subst,
   length,
 }
 use Rattle.msb_laws.specs.Results as results
+use Rattle.msb_elements.specs.Nodes.{Node, children_in}
 use Rattle.msb_expand.specs.Reserved.{folder_of}
 use Rattle.msb_expand.specs.declared.lens.Bucket.{Bucket}
-use Rattle.build_world.specs.Elements.{At}
+use Rattle.build_world.specs.Elements.{At, at}
 use Rattle.build_world.specs.declared.fault.EvalFault.{EvalFault}
+use Rattle.element_texts.specs.Contexts.{ElementContext}
 use Rattle.result_cache.specs.Journal.{Journal}
 use Rattle.result_cache.specs.declared.record.Segment.{Segment}
 use Rattle.result_cache.specs.declared.request.RequestResult.{RequestResult}
@@ -39,14 +48,16 @@ use Rattle.task_trait.specs.declared.failures.Failure.{Failure}
 use Rattle.task_trait.specs.declared.tools.Param.{Param}
 use Rattle.task_trait.specs.declared.tools.ToolInput.{ToolInput}
 use Rattle.task_trait.specs.declared.tools.TaskOutput.{TaskOutput}
+use Rattle.target_texts.specs.Made.{Made, all_made, up_to_fault}
 use Rattle.target_texts.specs.OnErrors.{notes_by}
+use Rattle.target_texts.specs.Outputs.{output, outputs}
 use Rattle.target_texts.specs.declared.on_error.OnError.{OnError}
 use Rattle.target_body.specs.Answers.{all_acted, given, make_calls, msbuild, tool}
 use Rattle.target_body.specs.Left.{call_frames, call_left, remaining_calls, waiting}
 use Rattle.target_body.specs.Moments.{EndsAs, Moment, Plays, done_at, moment, reached_by, state_at}
 use Rattle.target_body.specs.Played.{Player, Done, Reached, over, played}
 use Rattle.target_body.specs.Seen.{ended, seen_done, seen_state}
-use Rattle.target_body.specs.States.{Run, State, Stopped, or_stop, taken}
+use Rattle.target_body.specs.States.{Run, State, Stopped, or_stop, taken, with_notes}
 use Rattle.target_body.specs.Tasks.{answered_to, call_context, ended_by, outputs_if}
 use Rattle.target_body.specs.Work.{Work, done, followed_by, unless_stopped}
 use Rattle.target_body.specs.declared.state.State.{State as Held}
@@ -64,6 +75,42 @@ pub not_empty : (n : ℕ) → (n == 0) ≡ false → n ≡ 0 → ⊥
 not_empty n is none =
     let same : (0 == 0) ≡ false = subst (λ (m : ℕ). (m == 0) ≡ false) none is in
     cc
+
+both : (a b : Bool) → (a && b) ≡ true → (a ≡ true) × (b ≡ true)
+both true b is = (refl, is)
+both false b is = cc
+
+-- no results go before
+none_before : (first more : List RequestResult) → length first ≡ 0 → more ≡ first ++ more
+none_before [] more none = refl
+none_before (result ∷ first) more none = cc
+
+-- an element without children has no Outputs
+no_output : (e : At) → children_in e.node ≡ [] → (context : ElementContext)
+    (params : List Param) → outputs context params e ≡ all_made []
+no_output e none context params = ap
+    (λ (nodes : List Node). up_to_fault (output context params) (map (at e.file) nodes)) none
+
+not_false : (b : Bool) → not b ≡ false → b ≡ true
+not_false true is = refl
+not_false false is = cc
+
+some_node : (n : ℕ) → not (suc n == 0) ≡ false → ⊥
+some_node n none = omega (arith, eqb-true (suc n) 0 (not_false (suc n == 0) none))
+
+takes_by : (gives : Bool) (e : At) (nodes : List Node) → children_in e.node ≡ nodes
+    → (gives && not (length nodes == 0)) ≡ false → (context : ElementContext)
+    (params : List Param) → outputs_if gives context params e ≡ all_made []
+takes_by false e nodes is none context params = refl
+takes_by true e [] is none context params = no_output e is context params
+takes_by true e (first ∷ rest) is none context params = absurd (some_node (length rest) none)
+
+-- Outputs that are inferred, and those of an element without children, take nothing
+pub takes_none : (gives : Bool) (e : At) (takes : Bool)
+    → takes ≡ (gives && not (length (children_in e.node) == 0)) → takes ≡ false
+    → (context : ElementContext) (params : List Param)
+    → outputs_if gives context params e ≡ all_made []
+takes_none gives e takes is none = takes_by gives e (children_in e.node) refl (sym is ∙ none)
 
 -- a value that was read, and a fault
 pub read_on : {X S : Type 0} (p : Player) (s : State) (d : Done)
@@ -109,30 +156,77 @@ module _ (run : Run) (e : At) (gives : Bool) (bucket : Bucket) (on_error : OnErr
       (λ (segments : List Segment). over (ended ending (state_at after))
       (record { segments = segments; tools = after.tools; journal = after.journal })) same
 
-  pub made_over : (p : Player) (plan : Plan) (results : List RequestResult) (output : TaskOutput)
-      (before after : Moment) (ending : Ending) → length (next_calls plan results) ≡ 0
-      → output ≡ gathered plan results
-      → EndsAs p
+  -- a task gives what its calls have given
+  pub gathered_so : {E : Type 0} (p : Player) (whole output : TaskOutput) (before after : Moment)
+      (r : Result Ending E) → output ≡ whole
+      → IfOk r
+      (λ ending. EndsAs p
       (λ s.
       followed_by (given s output) (λ x. done (answered_to run e gives bucket on_error x)))
-      before ending after
+      before ending after)
+      → IfOk r
+      (λ ending. EndsAs p
+      (λ s. followed_by (given s whole) (λ x. done (answered_to run e gives bucket on_error x)))
+      before ending after)
+  gathered_so p whole output before after r is ends =
+      let P : TaskOutput
+      → Type 0 = λ o.
+      IfOk r
+      (λ ending. EndsAs p
+      (λ s. followed_by (given s o) (λ x. done (answered_to run e gives bucket on_error x)))
+      before ending after) in
+      subst P is ends
+
+  -- where no Output takes items, it doesn't matter which are given
+  pub none_taken : {E : Type 0} (p : Player) (plan : Plan) (entries : List RequestResult)
+      (output : TaskOutput) (before after : Moment) (r : Result Ending E)
+      → ((context : ElementContext) (params : List Param)
+      → outputs_if gives context params e ≡ all_made [])
+      → output ≡ record (gathered plan entries) { outputs = [] }
+      → IfOk r
+      (λ ending. EndsAs p
+      (λ s.
+      followed_by (given s output) (λ x. done (answered_to run e gives bucket on_error x)))
+      before ending after)
+      → IfOk r
+      (λ ending. EndsAs p
+      (λ s.
+      followed_by (given s (gathered plan entries))
+      (λ x. done (answered_to run e gives bucket on_error x))) before ending after)
+  none_taken p plan entries output before after r none is ends =
+      let whole : TaskOutput = gathered plan entries in
+      let without : TaskOutput = record whole { outputs = [] } in
+      let context : ElementContext = call_context run (state_at before) bucket in
+      let noted : State = with_notes (notes_by on_error whole.notes) (state_at before) in
+      let same : answered_to run e gives bucket on_error (state_at before, without)
+      ≡ answered_to run e gives bucket on_error (state_at before, whole) =
+      ap (λ (made : Made). results.and_then (taken made noted) (ended_by on_error whole.ok))
+      (none context [] ∙ sym (none context whole.outputs)) in
+      let Q : Result State Stopped
+      → Type 0 = λ w.
+      IfOk r
+      (λ ending. played p (done w) (done_at before)
+      ≡ over (ended ending (state_at after)) (done_at after)) in
+      subst Q same (gathered_so p without output before after r is ends)
+
+  pub made_over : (p : Player) (plan : Plan) (results : List RequestResult)
+      (before after : Moment) (ending : Ending) → length (next_calls plan results) ≡ 0
+      → EndsAs p
+      (λ s.
+      followed_by (given s (gathered plan results))
+      (λ x. done (answered_to run e gives bucket on_error x))) before ending after
       → Plays (call_frames run e gives bucket) p
       (λ s. followed_by (remaining_calls plan results s)
       (λ x. done (answered_to run e gives bucket on_error (x.0, gathered plan x.1)))) before
       (Over ending) after
-  made_over p plan results output before after ending none is ends =
-      let P : TaskOutput
-      → Type 0 = λ o.
-      EndsAs p
-      (λ s. followed_by (given s o) (λ x. done (answered_to run e gives bucket on_error x)))
-      before ending after in
+  made_over p plan results before after ending none ends =
       ap
       (λ w.
       played p
       (followed_by w
       (λ x. done (answered_to run e gives bucket on_error (x.0, gathered plan x.1))))
       (done_at before)) (calls_over plan results (state_at before) none)
-      ∙ subst P is ends
+      ∙ ends
 
   -- the calls of an MSBuild task, from the first ones on
   pub planned_on : (p : Player) (plan : Plan) (s : State) (d : Done)
@@ -231,6 +325,28 @@ module _ (run : Run) (e : At) (gives : Bool) (bucket : Bucket) (on_error : OnErr
   all_planned p plan params first before after (Ok step) is none plays = planned_so p plan params
       first before after step is none plays
   all_planned p plan params first before after (Err error) is none plays = plays
+
+-- the results of all calls of an MSBuild task have come at once
+pub resumed_over : (run : Run) (e : At) (gives : Bool) (bucket : Bucket) (p : Player)
+    (call : AtCall) (more : List RequestResult) (before after : Moment) (ending : Ending)
+    (ends_with : Bool) → 0 < length (waiting call) → length more ≡ length (waiting call)
+    → ends_with ≡ ((length call.results == 0) && (length (next_calls call.plan more) == 0))
+    → ends_with ≡ true
+    → EndsAs p
+    (λ s.
+    followed_by (given s (gathered call.plan more))
+    (λ x. done (answered_to run e gives bucket call.on_error x))) before ending after
+    → Plays (call_frames run e gives bucket) p
+    (λ s. call_left run e gives bucket call s more before.journal) before (Over ending) after
+resumed_over run e gives bucket p call more before after ending ends_with waits fits is ended_so
+    ends =
+    let none : ((length call.results == 0) ≡ true)
+    × ((length (next_calls call.plan more) == 0) ≡ true) =
+    both (length call.results == 0) (length (next_calls call.plan more) == 0) (sym is ∙ ended_so) in
+    resumed_on run e gives bucket call.on_error p call more more before after (Over ending) refl
+    waits fits (none_before call.results more (empty_of (length call.results) none.0))
+    (made_over run e gives bucket call.on_error p call.plan more before after ending
+    (empty_of (length (next_calls call.plan more)) none.1) ends)
 
 -- a tool, and one that can't be handed its files
 module _ (p : Player) (task : List ℕ) (f : State × TaskOutput → Work (Result State Stopped)) where

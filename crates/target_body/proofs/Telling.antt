@@ -143,38 +143,33 @@ module _ {E : Type 0} (answer : List ℕ → ToolInput → ToolAnswer) (id : Run
 
   -- and when results have come
   pub all_resumed : (at : AtRun) (keys : List RequestKey)
-      (results given copies : List RequestResult) (held added : Held)
+      (results given : List RequestResult) (held added : Held)
       (r : Result (BodyAsk × Stand) E)
       → added ≡ record held { segments = held.segments ++ called keys given }
-      → keys ≡ waiting_run at → given ≡ results → copies ≡ results
+      → keys ≡ waiting_run at → given ≡ results
       → Plays (buckets_frames choose run) (player id answer) (λ s. buckets_left choose run at s
-      copies journal) (moment added journal tools) step after
+      results journal) (moment added journal tools) step after
       → IfOk r (λ r. (choose : Chooser) (run : Run) → Tells choose run after.held step r.0
       (standing_by choose run r.1))
       → IfOk r (λ r. Advances answer id
       (body_of (left choose run at (seen_state held journal) results journal))
       (held.segments ++ called (waiting_run at) results) journal after.journal tools after.tools
       r.0 (standing_by choose run r.1))
-  all_resumed at keys results given copies held added (Ok r) added_so keys_so given_so copies_so
-      plays tells =
-      let P : Held → List RequestResult → Type 0 =
-      λ h results. Advances answer id
+  all_resumed at keys results given held added (Ok r) added_so keys_so given_so plays tells =
+      let P : Held → Type 0 =
+      λ h. Advances answer id
       (body_of (left choose run at (seen_state h journal) results journal)) h.segments journal
       after.journal tools after.tools r.0 (standing_by choose run r.1) in
       let Q : List RequestKey → List RequestResult
-      → Type 0 = λ keys given. P (record held { segments = held.segments ++ called keys given })
-      results in
+      → Type 0 = λ keys given. P (record held { segments = held.segments ++ called keys given }) in
       subst (λ (given : List RequestResult). Q (waiting_run at) given) given_so
       (subst (λ (keys : List RequestKey). Q keys given) keys_so
-      (subst
-      (λ (results : List RequestResult). P
-      (record held { segments = held.segments ++ called keys given }) results) copies_so
-      (subst (λ (h : Held). P h copies) added_so
-      (advances_by answer id choose run (λ s. buckets_left choose run at s copies journal)
+      (subst P added_so
+      (advances_by answer id choose run (λ s. buckets_left choose run at s results journal)
       (moment added journal tools) after step r.0 (standing_by choose run r.1) plays
-      (tells choose run)))))
-  all_resumed at keys results given copies held added (Err error) added_so keys_so given_so
-      copies_so plays tells = tt
+      (tells choose run))))
+  all_resumed at keys results given held added (Err error) added_so keys_so given_so plays tells =
+      tt
 
 pub all_gone : {E : Type 0} (answer : List ℕ → ToolInput → ToolAnswer) (id : RunId)
     (choose : Chooser) (run : Run) (keys : List RequestKey) (segments : List Segment)

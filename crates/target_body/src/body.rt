@@ -220,7 +220,7 @@ impl Waiting {
         let Waiting { state, at } = self;
         let mut state = state;
         state.add_calls(at.waiting(), results.as_slice())?;
-        let step = at.resume(&mut state, context, results.copy()?, tools, journal)?;
+        let step = at.resume(&mut state, context, results, tools, journal)?;
         tell(context.alloc, state, step)
     }
 }

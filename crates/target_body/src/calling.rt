@@ -6,8 +6,11 @@ ghost use Rattle.std.specs.Prelude.{
   ◌≤◌,
   ℕ,
   List,
+  ◌&&◌,
+  ◌==◌,
   false,
   length,
+  not,
   Some,
   Ok as TheOk,
   IfOk,
@@ -15,6 +18,7 @@ ghost use Rattle.std.specs.Prelude.{
 };
 ghost use Rattle.build_world.specs.Answers.{GivesFault};
 ghost use Rattle.build_world.specs.Elements.{seen_element};
+ghost use Rattle.msb_elements.specs.Nodes.{children_in};
 ghost use Rattle.msb_expand.specs.Reserved.{folder_of};
 ghost use Rattle.task_kit.specs.Tasks.{answer};
 ghost use Rattle.task_msbuild.specs.Gathered.{gathered};
@@ -49,12 +53,12 @@ use build_world::{EvalFault, PlacedElement};
 use element_texts::ElementContext;
 use msb_expand::Bucket;
 use msb_files::{FileView, Journal};
-use msb_values::{Change, List, Name, NoMemory};
+use msb_values::{Change, Copied, List, Name, NoMemory};
 use result_cache::RequestResult;
 use std::alloc::Global;
 use target_texts::{OnError, TaskElement, push_outputs, task_of};
 use task_kit::{foreign_input, foreign_output};
-use task_msbuild::{gather, plan};
+use task_msbuild::{Plan, gather, gather_without_outputs, plan};
 use task_trait::{CountedTools, Failure, Param, TaskOutput, ToolAnswer, ToolInput};
 
 /// A task element in one of its buckets.
@@ -65,6 +69,16 @@ pub(crate) struct TaskCall<'a> {
     /// Whether its Outputs are what the task gives; else others are inferred in their place.
     pub(crate) gives: bool,
     pub(crate) bucket: &'a Bucket,
+}
+
+impl TaskCall<'_> {
+    // Whether its Outputs may take what the task gives.
+    fn takes_outputs(&self) -> bool
+        ensures { result ≡ (self.now.gives
+            && not (length (children_in (seen_element self.now.element).node) == 0)) }
+    {
+        self.gives && self.element.element.count() != 0
+    }
 }
 
 /// A call of a task by its name.
@@ -310,8 +324,8 @@ impl State {
             (moment self.new journal.new tools)) }
     {
         if at.plan.next(&at.results).is_empty() {
-            let output = gather(call.context.alloc, &at.plan, &at.results)?;
-            return Ok(Step::Over(self.give(call, at.on_error, output, journal)?));
+            let ending = self.take_results(call, at.on_error, &at.plan, &at.results, journal)?;
+            return Ok(Step::Over(ending));
         }
         Ok(Step::Waits(at))
     }
@@ -321,22 +335,54 @@ impl State {
         &mut self,
         call: &TaskCall<'_>,
         at: AtCall,
-        results: List<RequestResult>,
+        results: &List<RequestResult>,
         journal: &mut Journal,
     ) -> Result<Step<AtCall>, NoMemory>
         requires waits { 0 < length (waiting at) }
-        requires fits { length results ≡ length (waiting at) }
+        requires fits { length results.now ≡ length (waiting at) }
         ensures { (answer : List ℕ → ToolInput → ToolAnswer) (tools : List (List ℕ × ToolInput))
             → IfOk result
             (λ step. let run = seen_run call.now.context in let e = seen_element call.now.element in
             Plays (call_frames run e call.now.gives call.now.bucket.now)
             (player call.now.context.id.now answer)
-            (λ s. call_left run e call.now.gives call.now.bucket.now at s results journal.old)
+            (λ s. call_left run e call.now.gives call.now.bucket.now at s results.now journal.old)
             (moment self.old journal.old tools) step (moment self.new journal.new tools)) }
     {
+        if at.ends_with(results) {
+            let ending = self.take_results(call, at.on_error, &at.plan, results, journal)?;
+            return Ok(Step::Over(ending));
+        }
         let mut at = at;
-        at.results.append(results)?;
+        at.results.append(results.copy()?)?;
         self.make_calls(call, at, journal)
+    }
+
+    // What an MSBuild task gives by the results of all its calls. Items that no Output takes are
+    // not made.
+    fn take_results(
+        &mut self,
+        call: &TaskCall<'_>,
+        on_error: OnError,
+        plan: &Plan,
+        results: &List<RequestResult>,
+        journal: &mut Journal,
+    ) -> Result<Ending, NoMemory>
+        requires { length results.now ≤ length plan.now.calls }
+        ensures { (answer : List ℕ → ToolInput → ToolAnswer) (tools : List (List ℕ × ToolInput))
+            → IfOk result
+            (λ ending. let run = seen_run call.now.context in let e = seen_element call.now.element
+            in
+            EndsAs (player call.now.context.id.now answer)
+            (λ s. followed_by (given s (gathered plan.now results.now))
+            (λ x. done (answered_to run e call.now.gives call.now.bucket.now on_error x)))
+            (moment self.old journal.old tools) ending (moment self.new journal.new tools)) }
+    {
+        if call.takes_outputs() {
+            let output = gather(call.context.alloc, plan, results)?;
+            return self.give(call, on_error, output, journal);
+        }
+        let output = gather_without_outputs(call.context.alloc, plan, results)?;
+        self.give(call, on_error, output, journal)
     }
 
     // What a task gives: its acts are done, and then its notes and its Outputs are taken.

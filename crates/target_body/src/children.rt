@@ -184,16 +184,16 @@ impl State {
         &mut self,
         context: &BucketContext<'_>,
         task: AtTask,
-        results: List<RequestResult>,
+        results: &List<RequestResult>,
         tools: &mut T,
         journal: &mut Journal,
     ) -> Result<Step<AtTask>, NoMemory>
         requires waits { 0 < length (waiting task.call) }
-        requires fits { length results ≡ length (waiting task.call) }
+        requires fits { length results.now ≡ length (waiting task.call) }
         ensures plays { IfOk result (λ step. let run = seen_run context.now.run in
             Plays (children_frames run context.now.choice.now)
             (player context.now.run.id.now T.answer)
-            (λ s. children_left run context.now.choice.now task s results journal.old)
+            (λ s. children_left run context.now.choice.now task s results.now journal.old)
             (moment self.old journal.old (T.calls tools.old)) step
             (moment self.new journal.new (T.calls tools.new))) }
         ensures begun { BeginsWith (T.calls tools.old) (T.calls tools.new) }

@@ -1,7 +1,8 @@
 //! What is left of the parts of a run where it waits for the results of calls, and how they go on
 //! with them.
 
-ghost use Rattle.std.specs.Prelude.{◌≡◌, ◌<◌, length, IfOk};
+ghost use Rattle.std.specs.Prelude.{◌≡◌, ◌<◌, ◌==◌, ◌&&◌, length, IfOk};
+ghost use Rattle.task_msbuild.specs.Plans.{next_calls};
 ghost use Rattle.task_trait.specs.Tools.{BeginsWith};
 ghost use Rattle.target_body.specs.Left.{
   IsOfChild,
@@ -117,6 +118,16 @@ impl Drop for AtRun {
     }
 }
 
+impl AtCall {
+    /// Whether these are the results of all that it calls.
+    pub(crate) fn ends_with(&self, results: &List<RequestResult>) -> bool
+        ensures { result ≡ ((length self.now.results == 0)
+            && (length (next_calls self.now.plan results.now) == 0)) }
+    {
+        self.results.is_empty() && self.plan.next(results).is_empty()
+    }
+}
+
 impl AtRun {
     /// The requests whose results are waited for.
     pub(crate) fn waiting(&self) -> &[RequestKey]
@@ -133,15 +144,15 @@ impl AtTask {
         self,
         state: &mut State,
         context: &RunContext<'_>,
-        results: List<RequestResult>,
+        results: &List<RequestResult>,
         tools: &mut T,
         journal: &mut Journal,
     ) -> Result<Step<AtTask>, NoMemory>
         requires waits { 0 < length (waiting self.call) }
-        requires fits { length results ≡ length (waiting self.call) }
+        requires fits { length results.now ≡ length (waiting self.call) }
         ensures plays { IfOk result (λ step. let run = seen_run context.now in
             Plays (child_frames run) (player context.now.id.now T.answer)
-            (λ s. child_left run self s results journal.old)
+            (λ s. child_left run self s results.now journal.old)
             (moment state.old journal.old (T.calls tools.old)) step
             (moment state.new journal.new (T.calls tools.new))) }
         ensures child { IfOk result (λ step. IsOfChild self.child step) }
@@ -173,15 +184,15 @@ impl AtBucket {
         self,
         state: &mut State,
         context: &RunContext<'_>,
-        results: List<RequestResult>,
+        results: &List<RequestResult>,
         tools: &mut T,
         journal: &mut Journal,
     ) -> Result<Step<AtBucket>, NoMemory>
         requires waits { 0 < length (waiting_bucket self) }
-        requires fits { length results ≡ length (waiting_bucket self) }
+        requires fits { length results.now ≡ length (waiting_bucket self) }
         ensures plays { IfOk result (λ step. let run = seen_run context.now in
             Plays (bucket_frames run) (player context.now.id.now T.answer)
-            (λ s. bucket_left run self s results journal.old)
+            (λ s. bucket_left run self s results.now journal.old)
             (moment state.old journal.old (T.calls tools.old)) step
             (moment state.new journal.new (T.calls tools.new))) }
         ensures begun { BeginsWith (T.calls tools.old) (T.calls tools.new) }
@@ -212,16 +223,16 @@ impl AtRun {
         self,
         state: &mut State,
         context: &RunContext<'_>,
-        results: List<RequestResult>,
+        results: &List<RequestResult>,
         tools: &mut T,
         journal: &mut Journal,
     ) -> Result<Step<AtRun>, NoMemory>
         requires waits { 0 < length (waiting_run self) }
-        requires fits { length results ≡ length (waiting_run self) }
+        requires fits { length results.now ≡ length (waiting_run self) }
         ensures plays { IfOk result (λ step. let run = seen_run context.now in
             let choose = seen_chooser context.now in
             Plays (buckets_frames choose run) (player context.now.id.now T.answer)
-            (λ s. buckets_left choose run self s results journal.old)
+            (λ s. buckets_left choose run self s results.now journal.old)
             (moment state.old journal.old (T.calls tools.old)) step
             (moment state.new journal.new (T.calls tools.new))) }
         ensures begun { BeginsWith (T.calls tools.old) (T.calls tools.new) }

@@ -10,7 +10,7 @@ returns-clause-goes g c =
     (seen_run c.args.context.now) c.args.journal.now (g.T.CountedTools.calls c.args.tools.now)
     (moment c.resume.new.state c.resume.new.journal (g.T.CountedTools.calls c.resume.new.tools))
     c.in_ok-step.step
-    w.at c.waiting.result.now c.args.results.now c.as_slice.result.now c.in_ok-copy.field-0 w.state
+    w.at c.waiting.result.now c.args.results.now c.as_slice.result.now w.state
     c.add_calls.new.self c.tell.result
-    c.in_ok-add_calls.ensures c.waiting.ensures c.as_slice.ensures c.in_ok-copy.ensures
+    c.in_ok-add_calls.ensures c.waiting.ensures c.as_slice.ensures
     c.in_ok-step.ensures.plays c.tell.ensures

@@ -16,7 +16,7 @@ returns-clause-plays g c =
     let tools = g.T.CountedTools.calls c.resume_children.new.tools in
     all_nested (children_frames run at.choice) (bucket_frames run)
     (player c.args.context.now.id.now g.T.CountedTools.answer)
-    (λ s. children_left run at.choice at.task s c.args.results c.args.journal.now)
+    (λ s. children_left run at.choice at.task s c.args.results.now c.args.journal.now)
     (λ end.
     unless_stopped end
     (λ s.

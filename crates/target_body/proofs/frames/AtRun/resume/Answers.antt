@@ -13,7 +13,7 @@ returns-clause-plays g c =
     let at = c.args.self in
     all_joined (bucket_frames run) (buckets_frames choose run) (player c.args.context.now.id.now
     g.T.CountedTools.answer)
-    (λ s. bucket_left run at.at s c.args.results c.args.journal.now)
+    (λ s. bucket_left run at.at s c.args.results.now c.args.journal.now)
     (λ end. unless_stopped end (each_in_turn (bucket_by choose run at.found) at.later))
     (moment c.args.state.now c.args.journal.now (g.T.CountedTools.calls c.args.tools.now))
     (moment c.resume_bucket.new.state c.resume_bucket.new.journal

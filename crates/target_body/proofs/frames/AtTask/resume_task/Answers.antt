@@ -7,7 +7,7 @@ pub returns-clause-plays : goal.returns-clause-plays
 returns-clause-plays g c =
     let tools = g.T.CountedTools.calls c.args.tools.now in
     let tools_then = g.T.CountedTools.calls c.after_call.new.tools in
-    task_resumed g.T.CountedTools.answer c.args.self c.args.results
+    task_resumed g.T.CountedTools.answer c.args.self c.args.results.now
     (moment c.args.state.now c.args.journal.now tools)
     (moment c.resume_call.new.self c.resume_call.new.journal tools)
     (moment c.after_call.new.self c.after_call.new.journal tools_then)

@@ -17,14 +17,13 @@ returns-then-is_empty c = λ answer tools.
     let bucket = c.args.call.now.bucket.now in
     let at = c.args.at in
     made_over run e c.args.call.now.gives bucket at.on_error
-    (player c.args.call.now.context.id.now answer) at.plan at.results c.in_ok-output.output
+    (player c.args.call.now.context.id.now answer) at.plan at.results
     (moment c.args.self.now c.args.journal.now tools)
-    (moment c.give.new.self c.give.new.journal tools) c.in_ok-give.field-0
+    (moment c.take_results.new.self c.take_results.new.journal tools) c.in_ok-ending.ending
     (empty_of (length (next_calls at.plan at.results))
     (ap (λ l. length l == 0) (sym c.next.ensures) ∙ sym c.is_empty.ensures
     ∙ c.if-is_empty.true))
-    c.in_ok-output.ensures
-    (c.in_ok-give.ensures answer tools)
+    (c.in_ok-ending.ensures answer tools)
 
 pub returns : goal.returns
 returns c = λ answer tools.

@@ -13,7 +13,7 @@ returns-clause-plays g c =
     let run = seen_run c.args.context.now.run in
     all_joined (child_frames run) (children_frames run c.args.context.now.choice.now)
     (player c.args.context.now.run.id.now g.T.CountedTools.answer)
-    (λ s. child_left run c.args.task s c.args.results c.args.journal.now)
+    (λ s. child_left run c.args.task s c.args.results.now c.args.journal.now)
     (λ end.
     unless_stopped end
     (each_in_turn (child run c.args.context.now.choice.now)
