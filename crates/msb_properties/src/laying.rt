@@ -2,7 +2,6 @@ ghost use Rattle.std.specs.Prelude.{◌≡◌, ◌<◌, ◌-◌, [], ◌∷◌, 
 ghost use Rattle.msb_elements.specs.View.{view, views};
 ghost use Rattle.build_world.specs.Answers.{GivesFault};
 ghost use Rattle.build_world.specs.Elements.{seen_element};
-ghost use Rattle.build_world.specs.Readings.{project_of};
 ghost use Rattle.msb_elements.specs.Nodes.{name_of};
 ghost use Rattle.msb_properties.specs.declared.part.Part.TheVariants.{Grouped};
 ghost use Rattle.msb_properties.specs.Laid.{
@@ -28,9 +27,7 @@ use crate::layout::Layout;
 use crate::part::Part;
 use crate::properties::Properties;
 use crate::setting::Setting;
-use crate::trees::ElementTrees;
 use build_world::{EvalFault, PlacedElement};
-use file_store::File;
 use msb_elements::Element;
 use msb_expand::Use;
 use msb_import::{ImportFault, resolve};
@@ -58,23 +55,8 @@ pub(crate) fn lay_file(
         return Ok(());
     };
     let longer = with_file(chain, path)?;
-    let root = root_in(alloc, &mut layout.trees, chain, file)?;
+    let root = layout.trees.read(alloc, file)?;
     lay_project(alloc, setting, layout, &longer, &file.path, root)
-}
-
-/// The root of a file that the last of a chain imports, or of the project's own file.
-fn root_in(
-    alloc: Global,
-    trees: &mut ElementTrees,
-    chain: &List<Text>,
-    file: &File,
-) -> Result<Element, EvalFault>
-    ensures { GivesFault view result (project_of file.now) }
-{
-    if chain.is_empty() {
-        return trees.own(alloc, file);
-    }
-    trees.read_import(alloc, file)
 }
 
 /// The chain with one more file.

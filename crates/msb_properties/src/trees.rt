@@ -1,4 +1,4 @@
-ghost use Rattle.std.specs.Prelude.{◌≡◌, IfOk, IfSome, Ok};
+ghost use Rattle.std.specs.Prelude.{◌≡◌, Ok, true};
 ghost use Rattle.msb_elements.specs.Projects.{project_in};
 ghost use Rattle.msb_elements.specs.View.{view};
 ghost use Rattle.build_world.specs.Answers.{GivesFault};
@@ -7,10 +7,11 @@ ghost use Rattle.msb_properties.specs.ElementSets.{read-once};
 
 use build_world::{EvalFault, read_file};
 use file_store::File;
+use indexmap::IndexMap;
 use msb_elements::Element;
-use msb_values::{Copied, NoMemory, Text8};
+use msb_values::{Copied, NoMemory, Shared, Text, Text8};
+use once_table::{Fits, OnceTable};
 use std::alloc::Global;
-use std::collections::HashMap;
 
 /// The element tree of a file, with the bytes from which it was read.
 #[derive(Drop)]
@@ -21,43 +22,52 @@ pub(crate) struct KeptTree {
 }
 
 impl KeptTree {
-    /// Keeps a copy of a tree that was read from the bytes of this file.
-    fn of(alloc: Global, file: &File, root: &Element) -> Result<KeptTree, NoMemory>
-        requires { project_of file.now ≡ Ok (view root.now) }
+    /// Reads the tree of a file, or says which element of it has the first fault.
+    fn read(alloc: Global, file: &File) -> Result<Shared<KeptTree>, EvalFault>
+        ensures { GivesFault (λ kept. view kept.root) result (project_of file.now) }
     {
+        let root = read_file(alloc, file)?.root;
         let bytes = file.bytes.copy()?;
-        let root = root.copy(alloc)?;
-        Ok(KeptTree { bytes, root })
+        Ok(Shared::new(alloc, KeptTree { bytes, root })?)
     }
 
-    /// A copy of the tree, if these are the bytes from which it was read.
-    fn root_if(&self, alloc: Global, bytes: &[u8]) -> Result<Option<Element>, NoMemory>
-        ensures { IfOk result (λ found.
-            IfSome found (λ root. project_in bytes.now ≡ Ok (view root))) }
+    /// Whether the tree was read from the bytes of this file.
+    fn is_of(&self, file: &File) -> bool
+        ensures { result ≡ true → project_of file.now ≡ Ok (view self.now.root) }
     {
-        if self.bytes.as_bytes() != bytes {
-            return Ok(None);
-        }
-        Ok(Some(self.root.copy(alloc)?))
+        self.bytes.as_bytes() == file.bytes.as_bytes()
     }
 }
 
-/// Element trees of files that were read, so that hardly one is read twice.
+/// A tree that was read fits any path, since it says itself from which bytes it was read.
+struct AnyPath;
+
+impl Fits<Text, Shared<KeptTree>, ()> for AnyPath {
+    ghost fits = { λ world path kept. Unit {0} };
+
+    ghost equal_keys = { λ world one other kept equal. (λ fits. fits, λ fits. fits) };
+}
+
+type SharedTrees = OnceTable<Text, Shared<KeptTree>, (), AnyPath>;
+
+/// Element trees of files that were read, so that none is read twice: each is found by its path,
+/// here or among those that several nodes share.
 ///
-/// Each is found by its path, and given only for the bytes from which it was read: so what is
-/// answered is what `read_file` gives, whichever files were read before, and no contract tells what
-/// is kept. The tree of a file that is imported is kept at once. A project's own file is seldom
-/// read again, and a copy of its tree would be for nothing: so it is kept where it is read for the
-/// second time, as for other global properties.
+/// A tree is given only for the bytes from which it was read: so what is answered is what
+/// `read_file` gives, whichever files were read before, and no contract tells what is kept.
 pub struct ElementTrees {
-    /// By paths, with nothing at the path of a file that was read once.
-    trees: HashMap<String, Option<KeptTree>>,
+    /// By paths.
+    trees: IndexMap<Text, Shared<KeptTree>>,
+    shared: Option<SharedTrees>,
 }
 
 // A drop that is written out is proved here alone.
 impl Drop for ElementTrees {
     fn drop(self) {
-        let ElementTrees { trees: _ } = self;
+        let ElementTrees {
+            trees: _,
+            shared: _,
+        } = self;
     }
 }
 
@@ -65,68 +75,98 @@ impl ElementTrees {
     /// No tree is kept.
     pub fn new(alloc: Global) -> ElementTrees {
         ElementTrees {
-            trees: HashMap::new(alloc),
+            trees: IndexMap::new(alloc),
+            shared: None,
         }
     }
 
-    /// The root of a file that is imported, or which element of it has the first fault. Where there
-    /// is no memory to keep the tree, that is want of memory.
-    pub(crate) fn read_import(&mut self, alloc: Global, file: &File) -> Result<Element, EvalFault>
+    /// These trees, which `beside` shares with other nodes, as all that are read from now on.
+    pub fn sharing(self, alloc: Global) -> Result<ElementTrees, NoMemory> {
+        let mut shared = OnceTable::open(alloc, &())?;
+        put_all(&mut shared, &self.trees)?;
+        let ElementTrees { trees, shared: _ } = self;
+        Ok(ElementTrees {
+            trees,
+            shared: Some(shared),
+        })
+    }
+
+    /// The trees of another node, which shares those that are shared here.
+    pub fn beside(&mut self, alloc: Global) -> Result<ElementTrees, NoMemory> {
+        let shared = match &mut self.shared {
+            Some(shared) => shared.split(&())?,
+            None => None,
+        };
+        Ok(ElementTrees {
+            trees: IndexMap::new(alloc),
+            shared,
+        })
+    }
+
+    /// The root of a file, or which element of it has the first fault. Where there is no memory to
+    /// keep the tree, that is want of memory.
+    pub(crate) fn read(&mut self, alloc: Global, file: &File) -> Result<Element, EvalFault>
         ensures { GivesFault view result (project_of file.now) }
     {
-        match self.copy_of(alloc, file)? {
-            Some(root) => Ok(root),
-            None => self.read(alloc, file),
+        let kept = self.kept(alloc, file)?;
+        Ok(kept.get().root.copy(alloc)?)
+    }
+
+    fn kept(&mut self, alloc: Global, file: &File) -> Result<Shared<KeptTree>, EvalFault>
+        ensures { GivesFault (λ kept. view kept.root) result (project_of file.now) }
+    {
+        if let Some(kept) = self.trees.get(&file.path) {
+            if kept.get().is_of(file) {
+                return Ok(kept.copy()?);
+            }
         }
-    }
-
-    /// The root of a project's own file.
-    pub(crate) fn own(&mut self, alloc: Global, file: &File) -> Result<Element, EvalFault>
-        ensures { GivesFault view result (project_of file.now) }
-    {
-        if self.trees.contains_key(file.path.as_str()) {
-            return self.read_import(alloc, file);
-        }
-        self.put(alloc, file, None)?;
-        root_of(alloc, file)
-    }
-
-    /// A copy of the tree that is kept of this file, if one is.
-    fn copy_of(&self, alloc: Global, file: &File) -> Result<Option<Element>, NoMemory>
-        ensures { IfOk result (λ found.
-            IfSome found (λ root. project_of file.now ≡ Ok (view root))) }
-    {
-        match self.trees.get(file.path.as_str()) {
-            Some(Some(kept)) => kept.root_if(alloc, file.bytes.as_bytes()),
-            _ => Ok(None),
-        }
-    }
-
-    fn read(&mut self, alloc: Global, file: &File) -> Result<Element, EvalFault>
-        ensures { GivesFault view result (project_of file.now) }
-    {
-        let root = root_of(alloc, file)?;
-        self.keep(alloc, file, &root)?;
-        Ok(root)
-    }
-
-    fn keep(&mut self, alloc: Global, file: &File, root: &Element) -> Result<(), NoMemory>
-        requires { project_of file.now ≡ Ok (view root.now) }
-    {
-        let kept = KeptTree::of(alloc, file, root)?;
-        self.put(alloc, file, Some(kept))
-    }
-
-    fn put(&mut self, alloc: Global, file: &File, tree: Option<KeptTree>) -> Result<(), NoMemory> {
-        let path = String::from_str(alloc, file.path.as_str())?;
-        self.trees.insert(path, tree)?;
-        Ok(())
+        let kept = match &mut self.shared {
+            Some(shared) => read_once(alloc, shared, file)?,
+            None => KeptTree::read(alloc, file)?,
+        };
+        self.trees.insert(file.path.copy()?, kept.copy()?)?;
+        Ok(kept)
     }
 }
 
-/// The root of a project file, or which element of it has the first fault.
-fn root_of(alloc: Global, file: &File) -> Result<Element, EvalFault>
-    ensures { GivesFault view result (project_of file.now) }
+/// Puts trees among those that nodes share.
+fn put_all(
+    shared: &mut SharedTrees,
+    trees: &IndexMap<Text, Shared<KeptTree>>,
+) -> Result<(), NoMemory> {
+    for (path, kept) in trees {
+        shared.put(path, kept)?;
+    }
+    Ok(())
+}
+
+/// The tree of a file, which is read by the first node that needs it.
+fn read_once(
+    alloc: Global,
+    shared: &mut SharedTrees,
+    file: &File,
+) -> Result<Shared<KeptTree>, EvalFault>
+    ensures { GivesFault (λ kept. view kept.root) result (project_of file.now) }
 {
-    Ok(read_file(alloc, file)?.root)
+    match shared.find(&file.path)? {
+        Some(kept) if kept.get().is_of(file) => Ok(kept),
+        Some(_) => KeptTree::read(alloc, file),
+        None => read_first(alloc, shared, file),
+    }
+}
+
+/// Reads the tree of a file for all nodes.
+fn read_first(
+    alloc: Global,
+    shared: &mut SharedTrees,
+    file: &File,
+) -> Result<Shared<KeptTree>, EvalFault>
+    ensures { GivesFault (λ kept. view kept.root) result (project_of file.now) }
+{
+    let read = KeptTree::read(alloc, file);
+    match &read {
+        Ok(kept) => shared.put(&file.path, kept)?,
+        Err(_) => shared.give_up(&file.path),
+    }
+    read
 }
