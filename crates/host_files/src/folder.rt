@@ -1,18 +1,21 @@
-ghost use Rattle.std.specs.Prelude.{◌≡◌, ◌≤◌, None, IfOk, true};
+ghost use Rattle.std.specs.Prelude.{◌≡◌, ◌≤◌, None, IfOk, length};
 ghost use Rattle.msb_laws.specs.Faults.{Rose};
-ghost use Rattle.file_store.specs.Entries.{are_listed_in_order};
 ghost use Rattle.file_store.specs.Failed.{counted};
 
-use crate::listing::{Found, Held, list_folder, read_found, take_or_read};
+use crate::held::Held;
+use crate::listed::Listed;
+use crate::listing::{look_at, look_in_threads};
+use crate::place::{Place, join};
+use crate::reading::{read_file, read_files, read_in_threads};
 use crate::removing::remove_file;
 use crate::writing::write_file;
-use file_store::{Entry, Store, StoreError, check_limits};
-use msb_values::{Copied, List, NoMemory, Text, Text8};
+use file_store::{Entry, Store, StoreError};
+use msb_values::{List, NoMemory, Text, Text8};
 use std::alloc::Global;
-use std::collections::BTreeMap;
 use std::io;
 use std::io::ErrorKind;
 use std::rt::Files;
+use std::thread::Threads;
 
 /// A real folder. It tells nothing.
 ///
@@ -24,6 +27,8 @@ use std::rt::Files;
 pub struct DirStore<'a, R: Files> {
     rt: &'a R,
     folder: Text,
+    // What was listed ahead, and not yet told.
+    ahead: Option<Listed>,
     held: Held,
     faults: u64,
     failed_listings: u64,
@@ -39,11 +44,57 @@ impl<'a, R: Files> DirStore<'a, R> {
         Ok(DirStore {
             rt,
             folder: Text::of(alloc, folder)?,
-            held: BTreeMap::new(alloc),
+            ahead: None,
+            held: Held::new(alloc),
             faults: 0,
             failed_listings: 0,
             failed_reads: 0,
         })
+    }
+
+    fn place(&self, alloc: Global) -> Place<'_, R> {
+        Place {
+            rt: self.rt,
+            alloc,
+            folder: self.folder.as_str(),
+        }
+    }
+
+    // Lists the folder in this thread.
+    fn list_alone(&self, alloc: Global) -> io::Result<Listed> {
+        let place = self.place(alloc);
+        let look = |paths: &[String]| look_at(&place, paths);
+        let read = |entries: &[Entry]| read_files(&place, entries);
+        Listed::of(&place, &look, &read)
+    }
+
+    // The first `most` bytes of a file: of those that are held, which are held no more, or else of
+    // those in the folder.
+    fn take_or_read(&mut self, alloc: Global, path: &str, most: u64) -> io::Result<Vec<u8>>
+        ensures most { IfOk result (λ bytes. length bytes.items ≤ most) }
+        ensures faults { self.new.faults ≡ self.old.faults }
+        ensures listings { self.new.failed_listings ≡ self.old.failed_listings }
+        ensures reads { self.new.failed_reads ≡ self.old.failed_reads }
+    {
+        let mut bytes = match self.held.take(path) {
+            Some(bytes) => bytes,
+            None => {
+                let whole = join(alloc, self.folder.as_str(), path)?;
+                read_file(&self.place(alloc), whole.as_str(), 0, most)?
+            }
+        };
+        bytes.truncate(most as usize);
+        Ok(bytes)
+    }
+
+    // Holds nothing of a path any more that is to be changed.
+    fn forget(&mut self, path: &str)
+        ensures faults { self.new.faults ≡ self.old.faults }
+        ensures listings { self.new.failed_listings ≡ self.old.failed_listings }
+        ensures reads { self.new.failed_reads ≡ self.old.failed_reads }
+    {
+        self.ahead = None;
+        let _ = self.held.take(path);
     }
 
     // What an error of the system is to a caller. All but want of memory are counted.
@@ -77,6 +128,32 @@ impl<'a, R: Files> DirStore<'a, R> {
     }
 }
 
+impl<'a, R: Files + Threads + Sync> DirStore<'a, R> {
+    /// Lists the folder and reads its files in so many threads, for the next listing, which is the
+    /// same as without. Where that fails nothing is kept, so that the listing tells it.
+    pub fn read_ahead(&mut self, alloc: Global, threads: usize)
+    where
+        R::File: Send,
+        R::Dir: Send,
+        ensures faults { self.new.faults ≡ self.old.faults }
+        ensures listings { self.new.failed_listings ≡ self.old.failed_listings }
+        ensures reads { self.new.failed_reads ≡ self.old.failed_reads }
+    {
+        self.ahead = self.list_in_threads(alloc, threads).ok();
+    }
+
+    fn list_in_threads(&self, alloc: Global, threads: usize) -> io::Result<Listed>
+    where
+        R::File: Send,
+        R::Dir: Send,
+    {
+        let place = self.place(alloc);
+        let look = |paths: &[String]| look_in_threads(&place, paths, threads);
+        let read = |entries: &[Entry]| read_in_threads(&place, entries, threads);
+        Listed::of(&place, &look, &read)
+    }
+}
+
 impl<'a, R: Files> Store for DirStore<'a, R> {
     /// All its reads count as reads of a path.
     ghost seen = { λ s. record {
@@ -89,26 +166,21 @@ impl<'a, R: Files> Store for DirStore<'a, R> {
 
     /// A name that is no UTF-8 fails the listing.
     fn list(&mut self, alloc: Global) -> Result<List<Entry>, StoreError> {
-        let found = match list_folder(&(self.rt, alloc), self.folder.as_str()) {
-            Ok(found) => found,
-            Err(error) => return Err(self.listing_fault(error)),
+        let listed = match self.ahead.take() {
+            Some(listed) => Ok(listed),
+            None => self.list_alone(alloc),
         };
-        let entries = entries_of(alloc, &found)?;
-        if check_limits(alloc, entries.as_slice()).is_err() {
-            return Ok(entries);
-        }
-        match read_found(&(self.rt, alloc), self.folder.as_str(), found) {
-            Ok((there, held)) => {
-                self.held = held;
-                Ok(entries_of(alloc, &there)?)
+        match listed {
+            Ok(listed) => {
+                self.held = listed.held;
+                Ok(listed.entries)
             }
             Err(error) => Err(self.listing_fault(error)),
         }
     }
 
     fn read(&mut self, alloc: Global, path: &str, most: u64) -> Result<Text8, StoreError> {
-        let rt = (self.rt, alloc);
-        match take_or_read(&mut self.held, &rt, self.folder.as_str(), path, most) {
+        match self.take_or_read(alloc, path, most) {
             Ok(bytes) => Ok(Text8::from(bytes)),
             Err(error) => {
                 let fault = self.fault(error);
@@ -121,7 +193,7 @@ impl<'a, R: Files> Store for DirStore<'a, R> {
     }
 
     fn write(&mut self, alloc: Global, path: &str, bytes: &[u8]) -> Result<(), StoreError> {
-        self.held.remove(path);
+        self.forget(path);
         match write_file(&(self.rt, alloc), self.folder.as_str(), path, bytes) {
             Ok(()) => Ok(()),
             Err(error) => Err(self.fault(error)),
@@ -129,7 +201,7 @@ impl<'a, R: Files> Store for DirStore<'a, R> {
     }
 
     fn remove(&mut self, alloc: Global, path: &str) -> Result<(), StoreError> {
-        self.held.remove(path);
+        self.forget(path);
         match remove_file(&(self.rt, alloc), self.folder.as_str(), path) {
             Ok(()) => Ok(()),
             Err(error) => Err(self.fault(error)),
@@ -139,18 +211,4 @@ impl<'a, R: Files> Store for DirStore<'a, R> {
     fn faults(&self) -> u64 {
         self.faults
     }
-}
-
-pub(crate) fn entries_of(alloc: Global, found: &Found) -> Result<List<Entry>, NoMemory>
-    ensures { IfOk result (λ l. are_listed_in_order l ≡ true) }
-{
-    let mut entries = List::new(alloc);
-    for (path, (size, stamp)) in found.iter() {
-        entries.push(Entry {
-            path: path.copy()?,
-            size: *size,
-            stamp: *stamp,
-        })?;
-    }
-    Ok(entries)
 }

@@ -1,11 +1,16 @@
-//! The store of a real folder, and standard output as a sink. What they reach is trusted: no contract
-//! says what a folder or an output holds. Each counts its own faults, and tells nothing.
+//! The store of a real folder, and standard output as a sink. What they reach is trusted: no
+//! contract says what a folder or an output holds. Each counts its own faults, and tells nothing.
 #![tactic(auto)]
 
 mod folder;
+mod held;
+mod listed;
 mod listing;
 mod output;
+mod place;
+mod reading;
 mod removing;
+mod sharing;
 mod writing;
 
 pub use folder::DirStore;

@@ -1,6 +1,6 @@
 //! The removal of a file of a real folder. No contract says what a folder holds, so all here is
 //! trusted.
-use crate::listing::{is_gone, join};
+use crate::place::{is_gone, join};
 use msb_paths::is_normal;
 use std::alloc::Global;
 use std::io::ErrorKind;

@@ -1,6 +1,6 @@
 //! The writing of a whole file into a real folder. No contract says what a folder holds, so all
 //! here is trusted.
-use crate::listing::join;
+use crate::place::join;
 use msb_paths::is_normal;
 use std::alloc::Global;
 use std::fs::{File, OpenFile, OpenOptions, Permissions};

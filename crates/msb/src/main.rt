@@ -3,9 +3,11 @@
 
 use host_files::{DirStore, OutSink};
 use msb_program::run;
+use msb_words::{Action, read_words};
 use std::alloc::Global;
 use std::process::ExitCode;
 use std::rt::Env;
+use std::thread::{self, Threads};
 use std::{env, io};
 use task_trait::NoTools;
 
@@ -32,6 +34,10 @@ fn main(rt: HostRuntime) -> ExitCode {
     let Ok(mut store) = DirStore::new(&rt, alloc, ".") else {
         return ExitCode::from(NO_MEMORY);
     };
+    let threads = reading_threads(&rt, alloc, &words);
+    if threads > 1 {
+        store.read_ahead(alloc, threads);
+    }
     let mut sink = OutSink::new(&rt);
     ExitCode::from(run(&rt, alloc, &words, &mut store, &mut sink, &NoTools))
 }
@@ -49,6 +55,19 @@ fn take_stack(blocks: usize, at: usize) -> usize {
         take_stack(blocks - 1, at)
     };
     usize::from(block[below % BLOCK])
+}
+
+// How many threads read the folder: as many as the words ask for nodes, and no more than there are
+// processors. A trial reads no file.
+fn reading_threads(rt: &impl Threads, alloc: Global, words: &[String]) -> usize {
+    let nodes = match read_words(alloc, words) {
+        Ok(options) if !matches!(options.action, Action::Trial) => options.nodes as usize,
+        _ => return 1,
+    };
+    match thread::available_parallelism(rt) {
+        Ok(processors) => nodes.min(processors.get()),
+        Err(_) => 1,
+    }
 }
 
 // The words after the program's name.

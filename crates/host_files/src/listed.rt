@@ -1,0 +1,67 @@
+//! What a listing found: its entries, and the bytes of their files.
+ghost use Rattle.std.specs.Prelude.{◌≡◌, true};
+ghost use Rattle.file_store.specs.Entries.{are_listed_in_order};
+
+use crate::held::{Held, HeldFile};
+use crate::listing::{Found, in_order, list_folder};
+use crate::place::Place;
+use crate::reading::Reading;
+use file_store::{Entry, check_limits};
+use msb_values::List;
+use std::alloc::Global;
+use std::io;
+use std::rt::Files;
+
+/// The entries of a listing, and the bytes of their files that can be read.
+#[derive(Drop)]
+pub(crate) struct Listed {
+    pub(crate) entries: List<Entry>,
+    pub(crate) held: Held,
+    pub(crate) ghost in_order: { are_listed_in_order entries ≡ true },
+}
+
+impl Listed {
+    /// Lists a folder, and reads the files where they are within the limits of a load. `look` looks
+    /// at the paths of one depth, and `read` reads all files.
+    pub(crate) fn of<R, L, F>(place: &Place<'_, R>, look: &L, read: &F) -> io::Result<Listed>
+    where
+        R: Files,
+        L: Fn(&[String]) -> io::Result<Found>,
+        F: Fn(&[Entry]) -> io::Result<Vec<Reading>>,
+        requires look { L.IsAlwaysCallable look.now }
+        requires read { F.IsAlwaysCallable read.now }
+    {
+        let entries = list_folder(place, look)?;
+        if check_limits(place.alloc, entries.as_slice()).is_err() {
+            let held = Held::new(place.alloc);
+            return Ok(Listed { entries, held });
+        }
+        let readings = read(entries.as_slice())?;
+        Listed::with_bytes(place.alloc, entries, readings)
+    }
+
+    // A file that has vanished is listed no more. One that can't be read stays listed, so that its
+    // path is told when it is read for itself.
+    fn with_bytes(
+        alloc: Global,
+        entries: List<Entry>,
+        readings: Vec<Reading>,
+    ) -> io::Result<Listed> {
+        let mut there = Vec::with_capacity(alloc, entries.len())?;
+        let mut held = Vec::with_capacity(alloc, entries.len())?;
+        for (entry, reading) in entries.into_vec().into_iter().zip(readings) {
+            match reading {
+                Reading::Gone => continue,
+                Reading::Failed => {}
+                Reading::Read(bytes) => {
+                    let path = String::from_str(alloc, entry.path.as_str())?;
+                    held.push(HeldFile { path, bytes })?;
+                }
+            }
+            there.push(entry)?;
+        }
+        let entries = in_order(alloc, there)?;
+        let held = Held::of(held);
+        Ok(Listed { entries, held })
+    }
+}
