@@ -11,6 +11,8 @@ mod place;
 mod reading;
 mod removing;
 mod sharing;
+#[cfg(test)]
+mod tests;
 mod writing;
 
 pub use folder::DirStore;
