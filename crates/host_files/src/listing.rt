@@ -176,7 +176,9 @@ fn add_names<R: Files>(
     paths: &mut Vec<String>,
 ) -> io::Result<()> {
     let mut whole = join(place.alloc, place.folder, folder)?;
-    whole.push('/')?;
+    if !whole.is_empty() {
+        whole.push('/')?;
+    }
     let mut open = place.rt.open_dir(whole.as_str())?;
     let mut names = [0u8; NAMES];
     let listed = paths.len();
