@@ -1,3 +1,4 @@
 pub mod Placing
 pub mod Rowing
 pub mod Keeping
+pub mod Crossing

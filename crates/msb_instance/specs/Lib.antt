@@ -3,3 +3,4 @@ pub mod Evaluated
 pub mod Made
 pub mod Kept
 pub mod KeptOnce
+pub mod KeyEquality

@@ -17,7 +17,6 @@ use msb_instance::Instances;
 use msb_values::NoMemory;
 use request_machine::{NodeContext, Walk, root_key};
 use std::alloc::Global;
-use std::mem;
 use std::sync::Wait;
 use std::thread::Threads;
 use task_trait::{Counted, CountedTools, Tools};
@@ -69,8 +68,8 @@ fn build_at_contexts<'a, R: Threads + Wait + Sync, T: CountedTools + Send + Drop
     build_on_many(rt, alloc, key, walk, contexts, low)
 }
 
-/// The contexts of nodes that have these tools. The first node keeps these instances, since it is
-/// the one that begins with the root request.
+/// The contexts of nodes that have these tools. The nodes share these instances, and all that they
+/// evaluate.
 pub fn contexts_of<'a, T: CountedTools + Drop + 'a>(
     alloc: Global,
     world: &'a World,
@@ -82,13 +81,14 @@ pub fn contexts_of<'a, T: CountedTools + Drop + 'a>(
     ensures suit { IfOk result (λ contexts. All (λ context. Suits T.answer context.world.now
         context.instances (world_of T.answer world.entry.now)) contexts.items) }
 {
-    let mut instances = instances;
+    let mut shared = instances.sharing(alloc, &world.tree)?;
     let mut contexts = Vec::new(alloc);
     for lent in tools.iter_mut() {
+        let instances = shared.beside(alloc, &world.tree)?;
         contexts.push(NodeContext {
             world,
             tools: lent,
-            instances: mem::replace(&mut instances, Instances::new(alloc)),
+            instances,
         })?;
     }
     Ok(contexts)

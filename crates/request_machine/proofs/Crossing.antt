@@ -1,55 +1,35 @@
--- The walk of a request may go to another thread where its tools may. What holds elements is shown
--- here, since they hold one another.
+-- The walk of a request may go to another thread where its tools may.
 use denote.RattleType.{RattleType}
+use denote.Builtin.{unit}
 use denote.Ref.{NamedLft}
 use denote.Struct.Declared as Struct
 use denote.Enum.Declared as Enum
-use denote.Param.Send.{
-  IsSend,
-  IsSync,
-  sendable,
-  recorded_send,
-  recorded_sync,
-  struct_send,
-  struct_sync,
-  enum_send,
-  view_send,
-  view_sync,
-}
+use denote.Param.Send.{IsSend, IsSync, sendable, recorded_send, recorded_sync, struct_send, struct_sync, enum_send, view_send}
 use Rattle.std.specs.contracts.option.Option as Option
 use Rattle.std.proofs.Crossing.{crosses as owned}
 use Rattle.std.proofs.alloc.Global.TheSendSync as heap
-use Rattle.std.proofs.collections.HashMap.TheSendSync as map
-use Rattle.std.proofs.string.String.TheSendSync as string
+use Rattle.std.proofs.option.Option.TheSendSync as option
 use Rattle.std.proofs.hash.BuildHasherDefault.TheSendSync as hasher
 use Rattle.std.proofs.hash.FoldHasher.TheSendSync as folds
 use Rattle.std.below.std_heap.proofs.GlobalAllocator.TheSendSync as allocator
 use Rattle.indexmap.proofs.map.IndexMap.TheSendSync as index
 use Rattle.msb_values.proofs.key.InstanceKey.TheSendSync as instance_key
-use Rattle.msb_values.proofs.list.List.TheSendSync as list
 use Rattle.msb_values.proofs.name.Name.TheSendSync as name
-use Rattle.msb_values.proofs.scope.Scope.TheSendSync as scope
 use Rattle.msb_values.proofs.shared.Shared.TheSendSync as arc
 use Rattle.msb_values.proofs.text.Text.TheSendSync as text
 use Rattle.msb_values.proofs.text8.Text8.TheSendSync as text8
-use Rattle.msb_values.specs.contracts.name.Name as Name
-use Rattle.msb_values.specs.contracts.text.Text as Text
-use Rattle.msb_elements.proofs.element.Element.TheLaws.TheKnot as knot
-use Rattle.msb_elements.specs.contracts.element.Element as Element
-use Rattle.target_order.proofs.row.TargetRow.TheSendSync as row
+use Rattle.msb_values.specs.contracts.list.List as List
+use Rattle.msb_values.specs.contracts.shared.Shared as Arc
+use Rattle.once_table.proofs.Crossing.{table-send}
 use Rattle.target_order.proofs.walk.OrderWalk.TheSendSync as order
-use Rattle.target_order.specs.contracts.row.TargetRow as TargetRow
 use Rattle.build_world.proofs.world.World.TheSendSync as world
-use Rattle.build_world.specs.contracts.instance.Instance as Instance
-use Rattle.build_world.specs.contracts.instance.UsedTarget as UsedTarget
-use Rattle.build_world.specs.contracts.laid_out.Placed as Placed
-use Rattle.build_world.specs.contracts.used_targets.UsedTargets as UsedTargets
-use Rattle.build_world.specs.contracts.used_targets.UsedTargets.TheInside as Inside
 use Rattle.msb_files.proofs.journal.Journal.TheSendSync as journal
+use Rattle.msb_instance.proofs.Crossing.{element-send, element-sync, ref-send}
+use Rattle.file_store.specs.contracts.tree.File as File
+use Rattle.msb_instance.below.msb_properties.specs.contracts.trees.AnyPath as AnyPath
 use Rattle.msb_instance.below.msb_properties.specs.contracts.trees.ElementTrees as ElementTrees
 use Rattle.msb_instance.below.msb_properties.specs.contracts.trees.KeptTree as KeptTree
-use Rattle.msb_instance.specs.contracts.instances.InstanceRef as InstanceRef
-use Rattle.msb_instance.specs.contracts.instances.InstanceRef.TheInside as RefInside
+use Rattle.msb_instance.specs.contracts.instances.Evaluation as Evaluation
 use Rattle.msb_instance.specs.contracts.instances.Instances as Instances
 use Rattle.msb_instance.specs.contracts.instances.Instances.TheInside as KeptInside
 use Rattle.result_cache.proofs.request.RequestKey.TheSendSync as key
@@ -74,141 +54,27 @@ use Rattle.request_machine.specs.contracts.stage.Stage as Stage
 use Rattle.request_machine.specs.contracts.stage.Visit as Visit
 use Rattle.request_machine.specs.contracts.walk.Walk as Walk
 
-element-send : IsSend Element.the_field.row
-element-send = search (owned, knot.crosses, sendable) depth 60 fits 20000
-
-element-sync : IsSync Element.the_field.row
-element-sync = search (owned, knot.crosses, sendable) depth 60 fits 20000
-
-placed-send : IsSend Placed.the_field.row
-placed-send = struct_send (Struct.shape Placed.the_type) (text.the_send, (element-send, tt))
-
-placed-sync : IsSync Placed.the_field.row
-placed-sync = struct_sync (Struct.shape Placed.the_type) (text.the_sync, (element-sync, tt))
-
-used-send : IsSend UsedTarget.the_field.row
-used-send = struct_send (Struct.shape UsedTarget.the_type)
-    (name.the_send, (placed-send, (search sendable, tt)))
-
-used-sync : IsSync UsedTarget.the_field.row
-used-sync = struct_sync (Struct.shape UsedTarget.the_type)
-    (name.the_sync, (placed-sync, (search sendable, tt)))
-
-UsedTarget-send : IsSend UsedTarget.the_row
-UsedTarget-send = recorded_send _ _ _ UsedTarget.the_type.to_one used-send
-
-UsedTarget-sync : IsSync UsedTarget.the_row
-UsedTarget-sync = recorded_sync _ _ _ UsedTarget.the_type.to_one used-sync
-
-inside-send : IsSend Inside.the_row
-inside-send = recorded_send _ _ _ Inside.the_type.to_one
-    (struct_send (Struct.shape Inside.the_type) (
-      list.the_send UsedTarget.the_row UsedTarget-send,
-      (
-        search (
-          map.the_send,
-          string.the_send,
-          hasher.the_send,
-          folds.the_send,
-          heap.the_send,
-          allocator.the_frees,
-          owned,
-          sendable,
-        ) depth 60 fits 20000,
-        tt,
-      ),
-    ))
-
-inside-sync : IsSync Inside.the_row
-inside-sync = recorded_sync _ _ _ Inside.the_type.to_one
-    (struct_sync (Struct.shape Inside.the_type) (
-      list.the_sync UsedTarget.the_row UsedTarget-sync,
-      (
-        search (
-          map.the_sync,
-          string.the_sync,
-          hasher.the_sync,
-          folds.the_sync,
-          heap.the_sync,
-          owned,
-          sendable,
-        ) depth 60 fits 20000,
-        tt,
-      ),
-    ))
-
-targets-send : IsSend UsedTargets.the_row
-targets-send = view_send _ _ _ _ _ inside-send
-
-targets-sync : IsSync UsedTargets.the_row
-targets-sync = view_sync _ _ _ _ _ inside-sync
-
-instance-send : IsSend Instance.the_field.row
-instance-send = struct_send (Struct.shape Instance.the_type) (
-  scope.the_field_send,
-  (
-    list.the_send TargetRow.the_row row.the_send,
-    (
-      targets-send,
-      (
-        list.the_send Name.the_row name.the_send,
-        (
-          list.the_send Name.the_row name.the_send,
-          (list.the_send Text.the_row text.the_send, tt),
-        ),
-      ),
-    ),
-  ),
-)
-
-instance-sync : IsSync Instance.the_field.row
-instance-sync = struct_sync (Struct.shape Instance.the_type) (
-  scope.the_field_sync,
-  (
-    list.the_sync TargetRow.the_row row.the_sync,
-    (
-      targets-sync,
-      (
-        list.the_sync Name.the_row name.the_sync,
-        (
-          list.the_sync Name.the_row name.the_sync,
-          (list.the_sync Text.the_row text.the_sync, tt),
-        ),
-      ),
-    ),
-  ),
-)
-
-Instance-send : IsSend Instance.the_row
-Instance-send = recorded_send _ _ _ Instance.the_type.to_one instance-send
-
-Instance-sync : IsSync Instance.the_row
-Instance-sync = recorded_sync _ _ _ Instance.the_type.to_one instance-sync
-
--- an instance is shared among threads
-ref-inside-send : IsSend RefInside.the_row
-ref-inside-send = recorded_send _ _ _ RefInside.the_type.to_one
-    (struct_send (Struct.shape RefInside.the_type)
-    (arc.the_send Instance.the_row Instance-send Instance-sync, tt))
-
-ref-send : IsSend InstanceRef.the_row
-ref-send = view_send _ _ _ _ _ ref-inside-send
-
--- the element trees that are kept are handed over whole
+-- the element trees that are kept are shared among threads
 KeptTree-send : IsSend KeptTree.the_row
 KeptTree-send = recorded_send _ _ _ KeptTree.the_type.to_one
     (struct_send (Struct.shape KeptTree.the_type) (text8.the_send, (element-send, tt)))
 
-kept_tree-send : IsSend (Option.the_row KeptTree.the_row)
-kept_tree-send = recorded_send _ _ _ (Option.the_type KeptTree.the_row).to_one
-    (enum_send (Enum.shape (Option.the_type KeptTree.the_row)) (tt, ((KeptTree-send, tt), tt)))
+KeptTree-sync : IsSync KeptTree.the_row
+KeptTree-sync = recorded_sync _ _ _ KeptTree.the_type.to_one
+    (struct_sync (Struct.shape KeptTree.the_type) (text8.the_sync, (element-sync, tt)))
+
+kept_tree-send : IsSend (Arc.the_row KeptTree.the_row)
+kept_tree-send = arc.the_send KeptTree.the_row KeptTree-send KeptTree-sync
+
+any_path-send : IsSend AnyPath.the_row
+any_path-send = search (owned, sendable) depth 20
 
 trees-send : IsSend ElementTrees.the_field.row
 trees-send = struct_send (Struct.shape ElementTrees.the_type) (
   search (
-    map.the_send,
+    index.the_send,
     kept_tree-send,
-    string.the_send,
+    text.the_send,
     hasher.the_send,
     folds.the_send,
     heap.the_send,
@@ -216,8 +82,15 @@ trees-send = struct_send (Struct.shape ElementTrees.the_type) (
     owned,
     sendable,
   ) depth 60 fits 20000,
-  tt,
+  (
+    option.the_send _
+        (table-send _ _ unit _ _ _ _ text.the_send kept_tree-send any_path-send _),
+    tt,
+  ),
 )
+
+evaluation-send : IsSend Evaluation.the_row
+evaluation-send = search (owned, sendable) depth 20
 
 -- what a node has for its walks goes to its thread, where its tools may
 kept-inside-send : IsSend KeptInside.the_row
@@ -234,7 +107,12 @@ kept-inside-send = recorded_send _ _ _ KeptInside.the_type.to_one
         owned,
         sendable,
       ) depth 60 fits 20000,
-      (trees-send, tt),
+      (
+        option.the_send _
+            (table-send _ _ (List.the_row File.the_row) _ _ _ _ instance_key.the_send ref-send
+            evaluation-send _),
+        (trees-send, tt),
+      ),
     ))
 
 instances-send : IsSend Instances.the_row

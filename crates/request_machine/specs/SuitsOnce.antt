@@ -1,12 +1,10 @@
 -- That what a node has suits a world is true in one way alone.
 use mathlib.Core.Sum.{⊎_set}
-use Rattle.std.proofs.Common.{List}
 use Rattle.std.proofs.Props.{props}
 use Rattle.std.specs.Coded.{codes, Coded-set, ×_prop}
 use Rattle.msb_laws.specs.Words.{Name}
-use Rattle.msb_values.specs.declared.key.InstanceKey.{InstanceKey}
-use Rattle.build_world.specs.declared.instance.Instance.{Instance}
 use Rattle.build_world.specs.declared.world.World.{World as Given}
+use Rattle.msb_instance.specs.Kept.{Kept}
 use Rattle.msb_instance.specs.KeptOnce.{evaluated-once, node-set}
 use Rattle.task_trait.specs.declared.tools.ToolAnswer.{ToolAnswer}
 use Rattle.task_trait.specs.declared.tools.ToolInput.{ToolInput}
@@ -26,7 +24,7 @@ answer-set : IsSet ToolAnswer
 answer-set = hlevel (⊎_set, codes, Coded-set, props)
 
 pub suits-once : (answer : Name → ToolInput → ToolAnswer) (given : Given)
-    (kept : List (InstanceKey × Instance)) (w : World Site ToolInput ToolAnswer) →
+    (kept : Kept) (w : World Site ToolInput ToolAnswer) →
     IsProp (Suits answer given kept w)
 suits-once answer given kept w =
     ×_prop (worlds site-set input-set answer-set w (world_of answer given))

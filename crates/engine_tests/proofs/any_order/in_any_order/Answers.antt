@@ -8,7 +8,7 @@ pub watch_build-requires-clause-place : goal.watch_build-requires-clause-place
 watch_build-requires-clause-place g c = (
   c.in_ok-walk.ensures.world,
   subst (AreEvaluated c.args.world.now.tree.files)
-      (sym c.new.ensures) tt,
+      (sym c.new.ensures) (tt, tt),
 )
 
 pub watch_build-requires-clause-begins : goal.watch_build-requires-clause-begins

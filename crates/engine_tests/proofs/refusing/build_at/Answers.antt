@@ -16,7 +16,7 @@ Refusing-send W s = recorded_send _ _ _ (Refusing.the_type W).to_one
 
 pub contexts_of-requires : goal.contexts_of-requires
 contexts_of-requires g c =
-    subst (AreEvaluated c.args.world.now.tree.files) (sym c.new.ensures) tt
+    subst (AreEvaluated c.args.world.now.tree.files) (sym c.new.ensures) (tt, tt)
 
 pub build_walk-requires-send-W : goal.build_walk-requires-send-W
 build_walk-requires-send-W g c κs within = let y = c.type_bounds.send-T in search

@@ -7,7 +7,7 @@ use Rattle.engine_tests.proofs.repeats.try_repeat_in.Goals as goal
 pub try_repeat_at-requires-clause-place : goal.try_repeat_at-requires-clause-place
 try_repeat_at-requires-clause-place g c = (
   c.in_ok-walk.ensures.world,
-  subst (AreEvaluated c.args.world.now.tree.files) (sym c.new.ensures) tt,
+  subst (AreEvaluated c.args.world.now.tree.files) (sym c.new.ensures) (tt, tt),
 )
 
 pub try_repeat_at-requires-clause-begins : goal.try_repeat_at-requires-clause-begins

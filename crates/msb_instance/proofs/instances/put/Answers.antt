@@ -1,25 +1,26 @@
-use Rattle.std.proofs.Common.{sym, subst, ◌∙◌}
-use Rattle.msb_instance.specs.Kept.{AreEvaluated, Keeps}
-use Rattle.msb_instance.proofs.Keeping.{evaluated-put, keeps-put, put-is, same_key, same_key-exact}
+use Rattle.std.proofs.Common.{sym, subst}
+use Rattle.msb_instance.specs.Kept.{AllEvaluated, Keeps}
+use Rattle.msb_instance.specs.KeyEquality.{same_key, same_key-exact}
+use Rattle.msb_instance.proofs.Keeping.{evaluated-put, keeps-put, put-is}
 use Rattle.msb_instance.proofs.instances.put.Goals as goal
 
 pub returns-clause-keeps : goal.returns-clause-keeps
 returns-clause-keeps c =
     let key = c.args.key.now in
-    let instance = c.args.instance in
+    let instance = c.args.instance.now in
     let es = c.args.kept.now.entries in
     let is = put-is same_key same_key-exact key instance es c.insert.new.self.entries
     c.in_ok-copy.field-0 c.in_ok-copy-2.field-0 c.in_ok-insert.ensures.entries
-    c.in_ok-copy.ensures (c.in_ok-copy-2.ensures ∙ c.in_ok-instance.ensures) in
+    c.in_ok-copy.ensures c.in_ok-copy-2.ensures in
     subst (Keeps key instance) (sym is) (keeps-put same_key same_key-exact key instance es)
 
 pub returns-clause-kept : goal.returns-clause-kept
 returns-clause-kept c files are evaluates =
     let key = c.args.key.now in
-    let instance = c.args.instance in
+    let instance = c.args.instance.now in
     let es = c.args.kept.now.entries in
     let is = put-is same_key same_key-exact key instance es c.insert.new.self.entries
     c.in_ok-copy.field-0 c.in_ok-copy-2.field-0 c.in_ok-insert.ensures.entries
-    c.in_ok-copy.ensures (c.in_ok-copy-2.ensures ∙ c.in_ok-instance.ensures) in
-    subst (AreEvaluated files) (sym is)
+    c.in_ok-copy.ensures c.in_ok-copy-2.ensures in
+    subst (AllEvaluated files) (sym is)
     (evaluated-put same_key same_key-exact key instance files es are evaluates)

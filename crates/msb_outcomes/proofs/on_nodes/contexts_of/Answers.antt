@@ -1,4 +1,4 @@
-use Rattle.std.proofs.Common.{All, refl, rules, subst, sym, ◌∙◌}
+use Rattle.std.proofs.Common.{All, refl, rules, subst, sym}
 use Rattle.std.proofs.lemmas.List.Elements.{All-push}
 use Rattle.msb_instance.specs.Kept.{AreEvaluated}
 use Rattle.request_machine.specs.NodeContexts.{Suits}
@@ -11,15 +11,12 @@ loop-lent-preserved g c =
     let world = c.args.world.now in
     record {
       count = search rules;
-      kept = subst (AreEvaluated world.tree.files)
-          (sym (c.replace.ensures.after ∙ c.new.ensures)) tt;
+      kept = subst (AreEvaluated world.tree.files) (sym c.beside.ensures.kept)
+          c.loop-lent.invariant.kept;
       suit = subst (All (λ context. Suits answer context.world.now context.instances
           (world_of answer world))) (sym c.in_ok-push.ensures.items)
           (All-push
           (λ context. Suits answer context.world.now context.instances (world_of answer world))
-          c.loop-lent.contexts.items _ c.loop-lent.invariant.suit (
-            refl,
-            subst (AreEvaluated world.tree.files) (sym c.replace.ensures.value)
-                c.loop-lent.invariant.kept,
-          ));
+          c.loop-lent.contexts.items _ c.loop-lent.invariant.suit
+          (refl, c.in_ok-instances.ensures.other));
     }

@@ -9,7 +9,7 @@ invariant-loop-lent g l =
     let answer = g.T.CountedTools.answer in
     record {
       count : vec_len l.contexts ≡ l.lent-index;
-      kept : AreEvaluated l.fn.world.tree.files l.instances;
+      kept : AreEvaluated l.fn.world.tree.files l.shared;
       suit : All (λ context. Suits answer context.world.now context.instances
           (world_of answer l.fn.world)) l.contexts.items;
     }

@@ -9,7 +9,7 @@ use Rattle.msb_outcomes.proofs.trial.build_anew.Goals as goal
 
 pub build_world_alone-requires : goal.build_world_alone-requires
 build_world_alone-requires g c =
-    subst (AreEvaluated c.args.world.now.tree.files) (sym c.new.ensures) tt
+    subst (AreEvaluated c.args.world.now.tree.files) (sym c.new.ensures) (tt, tt)
 
 pub returns-clause-comes : goal.returns-clause-comes
 returns-clause-comes g c =

@@ -4,4 +4,4 @@ use Rattle.msb_outcomes.proofs.work.evaluate_root.Goals as goal
 
 pub get-requires-clause-kept : goal.get-requires-clause-kept
 get-requires-clause-kept c =
-    subst (AreEvaluated c.args.tree.now.files) (sym c.new-instances.ensures) tt
+    subst (AreEvaluated c.args.tree.now.files) (sym c.new-instances.ensures) (tt, tt)

@@ -2,7 +2,8 @@ use Rattle.std.proofs.Common.{◌≡◌, ◌∙◌, Ok, ap, sym, subst}
 use Rattle.build_world.specs.declared.instance.Instance.{Instance}
 use Rattle.msb_instance.specs.Evaluated.{evaluated, seen_instance}
 use Rattle.msb_instance.specs.Kept.{AreEvaluated, Keeps}
-use Rattle.msb_instance.proofs.Keeping.{evaluated-kept, keeps-found, same_key, same_key-exact}
+use Rattle.msb_instance.specs.KeyEquality.{same_key, same_key-exact}
+use Rattle.msb_instance.proofs.Keeping.{evaluated-kept, keeps-found}
 use Rattle.msb_instance.proofs.instances.Instances.get.Goals as goal
 
 pub returns-in-Some-clause-gives : goal.returns-in-Some-clause-gives
@@ -13,7 +14,7 @@ returns-in-Some-clause-gives c =
     let es = c.self.inside.kept.entries in
     let is : evaluated files key ≡ Ok (seen_instance instance) =
     evaluated-kept same_key same_key-exact key instance files es
-    (subst (AreEvaluated files) (sym c.self.view_is) c.requires.kept)
+    (subst (AreEvaluated files) (sym c.self.view_is) c.requires.kept).0
     (keeps-found same_key same_key-exact key instance es (sym c.in-Some.ensures.value)) in
     is ∙ ap (λ (i : Instance). Ok (seen_instance i)) (sym c.in_ok-copy.ensures)
 
@@ -22,7 +23,7 @@ returns-in-Some-clause-keeps c =
     let key = c.args.key.now in
     let instance = c.in-Some.instance.now in
     let es = c.self.inside.kept.entries in
-    let kept : Keeps key instance c.args.self.now =
-    subst (Keeps key instance) c.self.view_is
+    let kept : Keeps key instance c.args.self.now.0 =
+    subst (λ kept. Keeps key instance kept.0) c.self.view_is
     (keeps-found same_key same_key-exact key instance es (sym c.in-Some.ensures.value)) in
-    subst (λ i. Keeps key i c.args.self.now) (sym c.in_ok-copy.ensures) kept
+    subst (λ i. Keeps key i c.args.self.now.0) (sym c.in_ok-copy.ensures) kept
