@@ -8,7 +8,6 @@ use denote.Param.Send.{IsSend, IsSync, sendable, recorded_send, recorded_sync, s
 use Rattle.std.specs.contracts.option.Option as Option
 use Rattle.std.proofs.Crossing.{crosses as owned}
 use Rattle.std.proofs.alloc.Global.TheSendSync as heap
-use Rattle.std.proofs.option.Option.TheSendSync as option
 use Rattle.std.proofs.hash.BuildHasherDefault.TheSendSync as hasher
 use Rattle.std.proofs.hash.FoldHasher.TheSendSync as folds
 use Rattle.std.below.std_heap.proofs.GlobalAllocator.TheSendSync as allocator
@@ -63,6 +62,9 @@ KeptTree-sync : IsSync KeptTree.the_row
 KeptTree-sync = recorded_sync _ _ _ KeptTree.the_type.to_one
     (struct_sync (Struct.shape KeptTree.the_type) (text8.the_sync, (element-sync, tt)))
 
+option-send : (T : RattleType) → IsSend T → IsSend (Option.the_field T).row
+option-send T s = enum_send (Enum.shape (Option.the_type T)) (tt, ((s, tt), tt))
+
 kept_tree-send : IsSend (Arc.the_row KeptTree.the_row)
 kept_tree-send = arc.the_send KeptTree.the_row KeptTree-send KeptTree-sync
 
@@ -83,7 +85,7 @@ trees-send = struct_send (Struct.shape ElementTrees.the_type) (
     sendable,
   ) depth 60 fits 20000,
   (
-    option.the_send _
+    option-send _
         (table-send _ _ unit _ _ _ _ text.the_send kept_tree-send any_path-send _),
     tt,
   ),
@@ -108,7 +110,7 @@ kept-inside-send = recorded_send _ _ _ KeptInside.the_type.to_one
         sendable,
       ) depth 60 fits 20000,
       (
-        option.the_send _
+        option-send _
             (table-send _ _ (List.the_row File.the_row) _ _ _ _ instance_key.the_send ref-send
             evaluation-send _),
         (trees-send, tt),
