@@ -19,7 +19,14 @@ use Rattle.msb_values.proofs.text.Text.TheSendSync as text
 use Rattle.msb_values.proofs.text8.Text8.TheSendSync as text8
 use Rattle.msb_values.specs.contracts.list.List as List
 use Rattle.msb_values.specs.contracts.shared.Shared as Arc
+use Rattle.msb_values.specs.contracts.key.InstanceKey as InstanceKey
+use Rattle.msb_values.specs.contracts.key.InstanceKeyPartialEq.TheImpl as equal
+use Rattle.msb_values.specs.contracts.key.InstanceKeyHash.TheImpl as hashed
+use Rattle.msb_values.specs.contracts.key.InstanceKeyEq.TheImpl as same
 use Rattle.once_table.proofs.Crossing.{table-send}
+use Rattle.once_table.specs.contracts.table.OnceTable as OnceTable
+use Rattle.msb_instance.specs.contracts.instances.InstanceRef as InstanceRef
+use Rattle.msb_instance.specs.contracts.instances.EvaluationFitsInstanceKeyInstanceRefFiles.TheImpl as fits
 use Rattle.target_order.proofs.walk.OrderWalk.TheSendSync as order
 use Rattle.build_world.proofs.world.World.TheSendSync as world
 use Rattle.msb_files.proofs.journal.Journal.TheSendSync as journal
@@ -94,6 +101,13 @@ trees-send = struct_send (Struct.shape ElementTrees.the_type) (
 evaluation-send : IsSend Evaluation.the_row
 evaluation-send = search (owned, sendable) depth 20
 
+shared_instances-send : IsSend (OnceTable.the_row InstanceKey.the_row InstanceRef.the_row
+    (List.the_row File.the_row) Evaluation.the_row equal.ghosts hashed.ghosts fits.ghosts
+    same.ghosts)
+shared_instances-send = table-send InstanceKey.the_row InstanceRef.the_row
+    (List.the_row File.the_row) Evaluation.the_row equal.ghosts hashed.ghosts fits.ghosts
+    instance_key.the_send ref-send evaluation-send same.ghosts
+
 -- what a node has for its walks goes to its thread, where its tools may
 kept-inside-send : IsSend KeptInside.the_row
 kept-inside-send = recorded_send _ _ _ KeptInside.the_type.to_one
@@ -110,9 +124,7 @@ kept-inside-send = recorded_send _ _ _ KeptInside.the_type.to_one
         sendable,
       ) depth 60 fits 20000,
       (
-        option-send _
-            (table-send _ _ (List.the_row File.the_row) _ _ _ _ instance_key.the_send ref-send
-            evaluation-send _),
+        option-send _ shared_instances-send,
         (trees-send, tt),
       ),
     ))
