@@ -4,7 +4,17 @@ use denote.Builtin.{unit}
 use denote.Ref.{NamedLft}
 use denote.Struct.Declared as Struct
 use denote.Enum.Declared as Enum
-use denote.Param.Send.{IsSend, IsSync, sendable, recorded_send, recorded_sync, struct_send, struct_sync, enum_send, view_send}
+use denote.Param.Send.{
+  IsSend,
+  IsSync,
+  sendable,
+  recorded_send,
+  recorded_sync,
+  struct_send,
+  struct_sync,
+  enum_send,
+  view_send,
+}
 use Rattle.std.specs.contracts.option.Option as Option
 use Rattle.std.proofs.Crossing.{crosses as owned}
 use Rattle.std.proofs.alloc.Global.TheSendSync as heap
