@@ -12,8 +12,6 @@ pub fn replay_runs(alloc: Global, table: &Table, runs: &[RunRef]) -> Result<Jour
     ensures { IfOk result (λ journal. replay_all table.now.finished runs.now [] ≡ Some journal) }
 {
     let mut journal = Journal::new(alloc)?;
-    for run in runs {
-        journal.replay(alloc, table, run)?;
-    }
-    Ok(journal)
+    journal.take_runs(table, runs)?;
+    journal.settle(alloc)
 }

@@ -140,6 +140,27 @@ impl Journal {
     {
         self.newest(self.count() - 1 - at).view()
     }
+
+    /// The same entries, of which few stand in front of the layers, so that copies take little.
+    pub fn settle(self, alloc: Global) -> Result<Journal, NoMemory>
+        ensures { IfOk result (λ j. j ≡ self) }
+    {
+        if self.part.len() < MOST {
+            return Ok(self);
+        }
+        let Journal {
+            part,
+            layers,
+            count,
+        } = self;
+        let newest = Layer::of_part(alloc, part)?;
+        let layers = with_new(alloc, layers.as_slice(), newest)?;
+        Ok(Journal {
+            part: Part::new(alloc),
+            layers,
+            count,
+        })
+    }
 }
 
 impl Journal {
@@ -233,27 +254,6 @@ impl Journal {
         settled.push(entry)?;
         *self = settled;
         Ok(())
-    }
-
-    /// The same entries, of which few stand in front of the layers, so that copies take little.
-    pub(crate) fn settle(self, alloc: Global) -> Result<Journal, NoMemory>
-        ensures { IfOk result (λ j. j ≡ self) }
-    {
-        if self.part.len() < MOST {
-            return Ok(self);
-        }
-        let Journal {
-            part,
-            layers,
-            count,
-        } = self;
-        let newest = Layer::of_part(alloc, part)?;
-        let layers = with_new(alloc, layers.as_slice(), newest)?;
-        Ok(Journal {
-            part: Part::new(alloc),
-            layers,
-            count,
-        })
     }
 }
 

@@ -51,6 +51,16 @@ impl Journal {
         Ok(())
     }
 
+    /// Uses the records of runs, in order and in place, as `replay` uses that of each. Where there
+    /// is no memory, some of the entries may be there. What is to be copied is settled afterwards.
+    /// (MSBuild task.)
+    pub fn take_runs(&mut self, table: &Table, runs: &[RunRef]) -> Result<(), NoMemory>
+        requires { IsSome (replay_all table.now.finished runs.now self.old) }
+        ensures { OnOk result (replay_all table.now.finished runs.now self.old ≡ Some self.new) }
+    {
+        take_all(self, table, runs)
+    }
+
     // Whether each of the runs has ended.
     fn have_ended(&self, runs: &[RunRef]) -> bool
         ensures { result ≡ list_all (λ run. has (end_of run) self.now) runs.now }

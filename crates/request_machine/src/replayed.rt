@@ -88,13 +88,12 @@ fn with_results(
         replay_all learnt.now.finished (runs_of results.now) journal.now ≡ Some after) }
 {
     let mut after = journal.copy()?;
-    replay_results(alloc, &mut after, learnt, results)?;
-    Ok(after)
+    take_results(&mut after, learnt, results)?;
+    after.settle(alloc)
 }
 
-/// Replays the runs of the results of calls, in call order. (MSBuild task.)
-fn replay_results(
-    alloc: Global,
+/// Uses the records of the runs of the results of calls, in call order. (MSBuild task.)
+fn take_results(
     journal: &mut Journal,
     learnt: &Table,
     results: &[RequestResult],
@@ -104,7 +103,7 @@ fn replay_results(
         ≡ Some journal.new) }
 {
     for result in results {
-        journal.replay_all(alloc, learnt, result.runs.as_slice())?;
+        journal.take_runs(learnt, result.runs.as_slice())?;
     }
     Ok(())
 }

@@ -1,16 +1,16 @@
-use Rattle.std.proofs.Common.{IsSome, ◌∙◌, sym, subst}
-use Rattle.result_cache.specs.Replay.{replay}
-use Rattle.msb_files.proofs.ReplaySteps.{run_step, run_defined}
+use Rattle.std.proofs.Common.{◌≡◌, [], IsSome, Some, ap, sym, ◌∙◌, subst}
+use Rattle.std.proofs.lemmas.Result.{IfOk-weaker}
+use Rattle.result_cache.specs.Replay.{replay_all}
 use Rattle.build_outcome.proofs.replay.replay_runs.Goals as goal
 
-pub replay-requires : goal.replay-requires
-replay-requires c =
-    run_defined (replay c.args.table.now.finished) c.args.runs.now c.loop-run.run-index
-    c.run-item.result c.loop-run-test.true c.run-item.is c.loop-run.journal
-    (subst (λ o. IsSome o) (sym c.loop-run.invariant) c.requires)
+pub take_runs-requires : goal.take_runs-requires
+take_runs-requires c =
+    subst (λ j. IsSome (replay_all c.args.table.now.finished c.args.runs.now j))
+    (sym c.in_ok-journal.ensures) c.requires
 
-pub loop-run-preserved : goal.loop-run-preserved
-loop-run-preserved c =
-    run_step (replay c.args.table.now.finished) c.args.runs.now c.loop-run.run-index
-    c.run-item.result c.loop-run-test.true c.run-item.is c.loop-run.journal
-    c.replay.new.self c.in_ok-replay.ensures.ok ∙ c.loop-run.invariant
+pub returns : goal.returns
+returns c =
+    let replayed = replay_all c.args.table.now.finished c.args.runs.now in
+    let taken = ap replayed (sym c.in_ok-journal.ensures) ∙ c.in_ok-take_runs.ensures in
+    IfOk-weaker c.settle.result _ (λ journal. replayed [] ≡ Some journal)
+    (λ journal is. taken ∙ ap Some (sym is)) c.settle.ensures
