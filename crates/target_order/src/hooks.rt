@@ -1,7 +1,6 @@
 ghost use Rattle.std.specs.Prelude.{
   ◌≡◌,
   ◌<◌,
-  ◌≤◌,
   ◌+◌,
   ◌++◌,
   ◌∷◌,
@@ -91,20 +90,82 @@ pub fn hooks(
     ensures { IfOk result
         (λ lists. AreHooks side (map (λ x. x.now) rows.now) numbers.now lists.items) }
 {
-    let mut lists = empty_lists(alloc, numbers.len())?;
-    let mut turns = vec![in alloc; 0usize; numbers.len()]?;
+    let mut hooks = HookLists::new(alloc, numbers.len())?;
     for at in 0..rows.len() {
         let row = rows[at];
-        hook(
-            &mut lists,
-            &mut turns,
-            at + 1,
-            numbers,
-            &row.name,
-            side.list(row).as_slice(),
-        )?;
+        hooks.add(at + 1, numbers, &row.name, side.list(row).as_slice())?;
     }
-    Ok(lists)
+    Ok(hooks.lists)
+}
+
+/// What is hooked on each target, by its number, while the rows take their turns.
+#[derive(Drop)]
+struct HookLists {
+    /// The names of the rows that name the target.
+    lists: Vec<List<Name>>,
+    /// The last turn in which the target was named.
+    turns: Vec<usize>,
+}
+
+impl HookLists {
+    fn new(alloc: Global, count: usize) -> Result<HookLists, NoMemory>
+        ensures lists { IfOk result (λ hooks. length hooks.lists.items ≡ count) }
+        ensures turns { IfOk result (λ hooks. length hooks.turns.items ≡ count) }
+        ensures empty { IfOk result (λ hooks. (k : ℕ) → k < count
+            → slice_index_or hooks.lists.items k [] ≡ []) }
+        ensures unnamed { IfOk result (λ hooks. (k : ℕ) → k < count
+            → slice_index_or hooks.turns.items k 0 ≡ 0) }
+    {
+        Ok(HookLists {
+            lists: empty_lists(alloc, count)?,
+            turns: vec![in alloc; 0usize; count]?,
+        })
+    }
+
+    /// Adds the row's name, once, to the list of each target that it names.
+    fn add(
+        &mut self,
+        turn: usize,
+        numbers: &Numbers,
+        row: &Name,
+        named: &[Name],
+    ) -> Result<(), NoMemory>
+        requires distinct { AreDistinct numbers.now }
+        requires len { length self.old.lists.items ≡ length numbers.now }
+        requires turns { length self.old.turns.items ≡ length numbers.now }
+        requires past { (k : ℕ) → k < length numbers.now
+            → slice_index_or self.old.turns.items k 0 < turn }
+        ensures { OnOk result
+            (AreHooked turn row.now named.now numbers.now self.old.lists.items
+            self.new.lists.items self.new.turns.items) }
+    {
+        for name in named {
+            match numbers.find(name) {
+                Some(target) => self.add_to(target, turn, row)?,
+                None => {}
+            }
+        }
+        Ok(())
+    }
+
+    /// Adds the row's name to the list of this target, unless that was done in this turn.
+    fn add_to(&mut self, target: usize, turn: usize, row: &Name) -> Result<(), NoMemory>
+        requires list { target < length self.old.lists.items }
+        requires turn { target < length self.old.turns.items }
+        ensures lists { OnOk result (self.new.lists.items
+            ≡ (if slice_index_or self.old.turns.items target 0 == turn
+            then self.old.lists.items else slice_set self.old.lists.items target
+            (slice_index_or self.old.lists.items target [] ++ row.now ∷ []))) }
+        ensures turns { OnOk result
+            (self.new.turns.items ≡ slice_set self.old.turns.items target turn) }
+    {
+        if self.turns[target] == turn {
+            return Ok(());
+        }
+        self.lists[target].push(row.copy()?)?;
+        self.turns[target] = turn;
+        Ok(())
+    }
 }
 
 fn empty_lists(alloc: Global, count: usize) -> Result<Vec<List<Name>>, NoMemory>
@@ -117,55 +178,4 @@ fn empty_lists(alloc: Global, count: usize) -> Result<Vec<List<Name>>, NoMemory>
         lists.push(List::new(alloc))?;
     }
     Ok(lists)
-}
-
-/// Adds the row's name, once, to the list of each target that it names. In `turns` each target has
-/// the last turn in which it was named.
-fn hook(
-    lists: &mut Vec<List<Name>>,
-    turns: &mut Vec<usize>,
-    turn: usize,
-    numbers: &Numbers,
-    row: &Name,
-    named: &[Name],
-) -> Result<(), NoMemory>
-    requires distinct { AreDistinct numbers.now }
-    requires len { length lists.old.items ≡ length numbers.now }
-    requires turns { length turns.old.items ≡ length numbers.now }
-    requires past { (k : ℕ) → k < length numbers.now → slice_index_or turns.old.items k 0 < turn }
-    ensures { OnOk result
-        (AreHooked turn row.now named.now numbers.now lists.old.items lists.new.items
-        turns.new.items) }
-{
-    for name in named {
-        match numbers.find(name) {
-            Some(target) => hook_one(lists, turns, turn, target, row)?,
-            None => {}
-        }
-    }
-    Ok(())
-}
-
-/// Adds the row's name to the list of this target, unless that was done in this turn.
-fn hook_one(
-    lists: &mut Vec<List<Name>>,
-    turns: &mut Vec<usize>,
-    turn: usize,
-    target: usize,
-    row: &Name,
-) -> Result<(), NoMemory>
-    requires list { target < length lists.old.items }
-    requires turn { target < length turns.old.items }
-    ensures lists { OnOk result (lists.new.items
-        ≡ (if slice_index_or turns.old.items target 0 == turn
-        then lists.old.items else slice_set lists.old.items target
-        (slice_index_or lists.old.items target [] ++ row.now ∷ []))) }
-    ensures turns { OnOk result (turns.new.items ≡ slice_set turns.old.items target turn) }
-{
-    if turns[target] == turn {
-        return Ok(());
-    }
-    lists[target].push(row.copy()?)?;
-    turns[target] = turn;
-    Ok(())
 }

@@ -270,7 +270,9 @@ impl OrderWalk {
             names: SharedNames::none(),
         };
         let places = self.places.with(alloc, target, depth)?;
-        self.visits = with_visit(alloc, &self.visits, depth, step, passed, visit)?;
+        let mut visits = mark(alloc, &self.visits, depth, step, passed)?;
+        visits.push(alloc, visit)?;
+        self.visits = visits;
         self.places = places;
         self.passed = request_passed(self.passed, depth, passed);
         self.asked = Asked::Condition;
@@ -304,24 +306,6 @@ impl OrderWalk {
         self.asked = Asked::End;
         self.failed |= failed;
     }
-}
-
-/// The visits through this depth, the innermost at this place of its list, and another inside them.
-fn with_visit(
-    alloc: Global,
-    visits: &OpenVisits,
-    depth: usize,
-    step: Step,
-    passed: usize,
-    visit: OpenVisit,
-) -> Result<OpenVisits, NoMemory>
-    requires { depth ≤ length visits.now }
-    ensures { IfOk result
-        (λ opened. opened ≡ marked_visits visits.now depth step passed ++ visit ∷ []) }
-{
-    let mut opened = mark(alloc, visits, depth, step, passed)?;
-    opened.push(alloc, visit)?;
-    Ok(opened)
 }
 
 /// The visits through this depth, the innermost at this place of its list.

@@ -6,6 +6,7 @@ use Rattle.target_order.proofs.hooks.hooks.Given as goal
 
 abbrev pub invariant-loop-at : goal.invariant-loop-at
 invariant-loop-at l =
-    AreHooks l.side (take l.at (map (λ (x : Bor TargetRow). x.now) l.rows)) l.numbers l.lists.items
-    × (length l.turns.items ≡ length l.numbers)
-    × ((k : ℕ) → k < length l.numbers → get_or l.turns.items k 0 ≤ l.at)
+    AreHooks l.side (take l.at (map (λ (x : Bor TargetRow). x.now) l.rows)) l.numbers
+    l.hooks.lists.items
+    × (length l.hooks.turns.items ≡ length l.numbers)
+    × ((k : ℕ) → k < length l.numbers → get_or l.hooks.turns.items k 0 ≤ l.at)
