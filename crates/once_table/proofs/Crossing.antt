@@ -50,7 +50,9 @@ module _ (K V W F : RattleType) (equal : PartialEq.Ghosts K.Denot) (hashed : Has
         arc.the_send _ (board.the_send values W unit _ values-send)
             (board.the_sync values W unit _ values-send),
         (
-          seat.the_send values W unit (histories.ghosts K V W F eq none equal none hashed none fits none none none) values-send,
+          seat.the_send values W unit
+              (histories.ghosts K V W F eq none equal none hashed none fits none none none)
+              values-send,
           (search (owned, sendable), (search sendable, tt)),
         ),
       )))

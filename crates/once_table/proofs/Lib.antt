@@ -1,2 +1,2 @@
-mod Placing
+pub mod Placing
 pub mod Crossing

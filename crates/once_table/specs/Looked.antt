@@ -1,4 +1,6 @@
 -- Values by their keys, and what a look for one answers.
+-- (MSBuild task; Build projects in parallel: a project is evaluated once for each set of global
+-- properties)
 use Rattle.std.specs.Prelude.{List, [], ◌∷◌}
 use Rattle.once_table.specs.declared.values.Look.{Look}
 use Rattle.once_table.specs.declared.values.Look.TheVariants.{Made, Making, Missing}

@@ -1,8 +1,21 @@
-ghost use Rattle.std.specs.Prelude.{◌≡◌, [], Some, true, false, IfNone, IfOk, IfSome};
-ghost use Rattle.once_table.specs.Looked.{IfMade};
+ghost use Rattle.std.specs.Prelude.{
+  ◌≡◌,
+  [],
+  Err,
+  Ok,
+  Some,
+  true,
+  false,
+  IfErr,
+  IfNone,
+  IfOk,
+  IfSome,
+};
+ghost use Rattle.once_table.specs.Looked.{AllFit, IfMade};
 
 use crate::Fits;
 use crate::values::{Look, Values};
+use indexmap::IndexMap;
 use msb_values::{Copied, NoMemory, Shared};
 use std::alloc::Global;
 use std::hash::Hash;
@@ -55,7 +68,7 @@ impl<
     W,
     F: Fits<K, V, W> + Send,
 > OnceTable<K, V, W, F> {
-    /// A table of no values, for this world.
+    /// A table of no values, for this world. The error is want of memory.
     pub fn open(alloc: Global, world: &W) -> Result<OnceTable<K, V, W, F>, NoMemory>
         ensures { IfOk result (λ table. table ≡ world.now) }
     {
@@ -73,7 +86,8 @@ impl<
         }
     }
 
-    /// Access for another thread; none where no more can be given.
+    /// Access for another thread; none where no more can be given. The error is want of memory:
+    /// then nothing changes.
     pub fn split(&mut self, world: &W) -> Result<Option<OnceTable<K, V, W, F>>, NoMemory>
         requires { world.now ≡ self.old }
         ensures other { IfOk result (λ other. IfSome other (λ table. table ≡ self.old)) }
@@ -93,8 +107,39 @@ impl<
         }))
     }
 
+    /// The value of a key; where there is none yet, this thread makes it for all. Where another
+    /// thread makes it just now, this call waits for that. What cannot be made is left to others
+    /// to make.
+    ///
+    /// The inner error is that of `make`, the outer one want of memory to find or to put the value.
+    pub fn find_or_make<E: Drop, M: FnOnce() -> Result<V, E>>(
+        &mut self,
+        key: &K,
+        make: M,
+    ) -> Result<Result<V, E>, NoMemory>
+    where
+        M: Drop,
+        requires may_call { M.pre make }
+        requires fits { (value : V) → M.post make (Ok value) → F.fits self.old key.now value }
+        ensures fits { IfOk result
+            (λ made. IfOk made (λ value. ∥ F.fits self.old key.now value ∥₁)) }
+        ensures fails { IfOk result (λ made. IfErr made (λ error. M.post make (Err error))) }
+        ensures kept { self.new ≡ self.old }
+    {
+        if let Some(value) = self.find(key)? {
+            return Ok(Ok(value));
+        }
+        let made = make();
+        match &made {
+            Ok(value) => self.put(key, value)?,
+            Err(_) => self.give_up(key),
+        }
+        Ok(made)
+    }
+
     /// The value of a key, or nothing: then this thread is the one that makes it, and has to put it
-    /// or to give it up. Where another thread makes it just now, this call waits for that.
+    /// or to give it up. Where another thread makes it just now, this call waits for that. The
+    /// error is want of memory: then nothing changes.
     pub fn find(&mut self, key: &K) -> Result<Option<V>, NoMemory>
         ensures fits { IfOk result
             (λ found. IfSome found (λ value. ∥ F.fits self.old key.now value ∥₁)) }
@@ -122,8 +167,20 @@ impl<
         look
     }
 
-    /// Puts the value of a key, which this thread has made. Where there is no memory for that, it
-    /// is given up.
+    /// Puts the values of all keys of a map. The error is want of memory: then the first of them
+    /// are put.
+    pub fn put_all(&mut self, values: &IndexMap<K, V>) -> Result<(), NoMemory>
+        requires { AllFit (F.fits self.old) values.now.entries }
+        ensures { self.new ≡ self.old }
+    {
+        for (key, value) in values {
+            self.put(key, value)?;
+        }
+        Ok(())
+    }
+
+    /// Puts the value of a key, which this thread has made. The error is want of memory: then the
+    /// value is given up.
     pub fn put(&mut self, key: &K, value: &V) -> Result<(), NoMemory>
         requires { F.fits self.old key.now value.now }
         ensures { self.new ≡ self.old }

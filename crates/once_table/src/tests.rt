@@ -1,4 +1,5 @@
 use crate::{Fits, OnceTable};
+use indexmap::IndexMap;
 use msb_values::{Copied, NoMemory, Text};
 use std::alloc::Global;
 use std::test::Fail;
@@ -26,26 +27,45 @@ impl Copied for Maker {
 
 type Table = OnceTable<Text, Maker, (), Any>;
 
+/// Asks for the value of a key, which is made by this maker where there is none.
+fn ask(table: &mut Table, key: &Text, maker: usize) -> Result<usize, NoMemory> {
+    let Maker(maker) = table.find_or_make(key, || -> Result<Maker, NoMemory> {
+        Ok(Maker(maker))
+    })??;
+    Ok(maker)
+}
+
 #[test]
-fn a_value_is_found_once_it_is_put(rt: HostRuntime) -> Result<(), Fail> {
+fn a_value_is_made_once(rt: HostRuntime) -> Result<(), Fail> {
     let mut table: Table = OnceTable::open(rt.alloc(), &())?;
     let key = Text::of(rt.alloc(), "a")?;
-    assert!(rt; table.find(&key)?.is_none());
-    table.put(&key, &Maker(3))?;
-    assert!(rt; matches!(table.find(&key)?, Some(Maker(3))));
+    assert!(rt; ask(&mut table, &key, 3)? == 3);
+    assert!(rt; ask(&mut table, &key, 4)? == 3);
     let other = Text::of(rt.alloc(), "b")?;
-    assert!(rt; table.find(&other)?.is_none());
+    assert!(rt; ask(&mut table, &other, 5)? == 5);
     Ok(())
 }
 
-/// What is given up is made by the next that asks.
+/// What can't be made is made by the next that asks.
 #[test]
-fn a_value_that_is_given_up_is_missing(rt: HostRuntime) -> Result<(), Fail> {
+fn a_value_that_is_not_made_is_missing(rt: HostRuntime) -> Result<(), Fail> {
     let mut table: Table = OnceTable::open(rt.alloc(), &())?;
     let key = Text::of(rt.alloc(), "a")?;
-    assert!(rt; table.find(&key)?.is_none());
-    table.give_up(&key);
-    assert!(rt; table.find(&key)?.is_none());
+    let made = table.find_or_make(&key, || -> Result<Maker, NoMemory> { Err(NoMemory) })?;
+    assert!(rt; made.is_err());
+    assert!(rt; ask(&mut table, &key, 3)? == 3);
+    Ok(())
+}
+
+/// Values that are put together are found.
+#[test]
+fn all_values_are_put(rt: HostRuntime) -> Result<(), Fail> {
+    let mut table: Table = OnceTable::open(rt.alloc(), &())?;
+    let key = Text::of(rt.alloc(), "a")?;
+    let mut values = IndexMap::new(rt.alloc());
+    values.insert(key.copy()?, Maker(3))?;
+    table.put_all(&values)?;
+    assert!(rt; ask(&mut table, &key, 4)? == 3);
     Ok(())
 }
 
@@ -60,15 +80,12 @@ struct Asker {
 impl Asker {
     /// Asks for the value of a key, and makes it where it is missing. Others may ask meanwhile.
     fn ask(&mut self, number: usize, key: &Text) -> Result<(), NoMemory> {
-        let maker = match self.table.find(key)? {
-            Some(Maker(maker)) => maker,
-            None => {
-                thread::yield_now();
-                self.table.put(key, &Maker(number))?;
-                self.made = self.made.saturating_add(1);
-                number
-            }
-        };
+        let made = &mut self.made;
+        let Maker(maker) = self.table.find_or_make(key, || -> Result<Maker, NoMemory> {
+            thread::yield_now();
+            *made = made.saturating_add(1);
+            Ok(Maker(number))
+        })??;
         Ok(self.makers.push(maker)?)
     }
 }
