@@ -83,7 +83,7 @@ impl ElementTrees {
     /// These trees, which `beside` shares with other nodes, as all that are read from now on.
     pub fn sharing(self, alloc: Global) -> Result<ElementTrees, NoMemory> {
         let mut shared = OnceTable::open(alloc, &())?;
-        put_all(&mut shared, &self.trees)?;
+        shared.put_all(&self.trees)?;
         let ElementTrees { trees, shared: _ } = self;
         Ok(ElementTrees {
             trees,
@@ -129,17 +129,6 @@ impl ElementTrees {
     }
 }
 
-/// Puts trees among those that nodes share.
-fn put_all(
-    shared: &mut SharedTrees,
-    trees: &IndexMap<Text, Shared<KeptTree>>,
-) -> Result<(), NoMemory> {
-    for (path, kept) in trees {
-        shared.put(path, kept)?;
-    }
-    Ok(())
-}
-
 /// The tree of a file, which is read by the first node that needs it.
 fn read_once(
     alloc: Global,
@@ -148,25 +137,9 @@ fn read_once(
 ) -> Result<Shared<KeptTree>, EvalFault>
     ensures { GivesFault (λ kept. view kept.root) result (project_of file.now) }
 {
-    match shared.find(&file.path)? {
-        Some(kept) if kept.get().is_of(file) => Ok(kept),
-        Some(_) => KeptTree::read(alloc, file),
-        None => read_first(alloc, shared, file),
+    match shared.find_or_make(&file.path, || KeptTree::read(alloc, file))? {
+        Ok(kept) if kept.get().is_of(file) => Ok(kept),
+        Ok(_) => KeptTree::read(alloc, file),
+        Err(fault) => Err(fault),
     }
-}
-
-/// Reads the tree of a file for all nodes.
-fn read_first(
-    alloc: Global,
-    shared: &mut SharedTrees,
-    file: &File,
-) -> Result<Shared<KeptTree>, EvalFault>
-    ensures { GivesFault (λ kept. view kept.root) result (project_of file.now) }
-{
-    let read = KeptTree::read(alloc, file);
-    match &read {
-        Ok(kept) => shared.put(&file.path, kept)?,
-        Err(_) => shared.give_up(&file.path),
-    }
-    read
 }
