@@ -4,7 +4,7 @@ ghost use Rattle.file_store.specs.Failed.{counted};
 
 use crate::held::Held;
 use crate::listed::Listed;
-use crate::listing::{look_at, look_in_threads};
+use crate::listing::{look_below, look_in_threads};
 use crate::place::{Place, join};
 use crate::reading::{read_file, read_files, read_in_threads};
 use crate::removing::remove_file;
@@ -63,7 +63,7 @@ impl<'a, R: Files> DirStore<'a, R> {
     // Lists the folder in this thread.
     fn list_alone(&self, alloc: Global) -> io::Result<Listed> {
         let place = self.place(alloc);
-        let look = |paths: &[String]| look_at(&place, paths);
+        let look = |paths: &[String]| look_below(&place, paths, usize::MAX);
         let read = |entries: &[Entry]| read_files(&place, entries);
         Listed::of(&place, &look, &read)
     }

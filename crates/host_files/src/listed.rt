@@ -3,7 +3,7 @@ ghost use Rattle.std.specs.Prelude.{◌≡◌, true};
 ghost use Rattle.file_store.specs.Entries.{are_listed_in_order};
 
 use crate::held::{Held, HeldFile};
-use crate::listing::{Found, in_order, list_folder};
+use crate::listing::{Walk, in_order, list_folder};
 use crate::place::Place;
 use crate::reading::Reading;
 use file_store::{Entry, check_limits};
@@ -22,11 +22,11 @@ pub(crate) struct Listed {
 
 impl Listed {
     /// Lists a folder, and reads the files where they are within the limits of a load. `look` looks
-    /// at the paths of one depth, and `read` reads all files.
+    /// at some paths and at what is below, and may leave some of it; `read` reads all files.
     pub(crate) fn of<R, L, F>(place: &Place<'_, R>, look: &L, read: &F) -> io::Result<Listed>
     where
         R: Files,
-        L: Fn(&[String]) -> io::Result<Found>,
+        L: Fn(&[String]) -> io::Result<Walk>,
         F: Fn(&[Entry]) -> io::Result<Vec<Reading>>,
         requires look { L.IsAlwaysCallable look.now }
         requires read { F.IsAlwaysCallable read.now }

@@ -30,42 +30,32 @@ use std::io::{ErrorKind, Read};
 use std::os::unix::fs::MetadataExt;
 use std::rt::Files;
 use std::thread::Threads;
-use std::{fs, io, str};
+use std::{fs, io, mem, str};
 
 /// How many bytes of names are read at once.
-const NAMES: usize = 4 * 1024;
+const NAMES: usize = 16 * 1024;
 
-/// What a listing says of a regular file beside its path.
-#[derive(Clone, Copy)]
-struct Stat {
-    size: u64,
-    stamp: u64,
-}
+/// How many paths for each thread are enough to be shared out.
+const ENOUGH: usize = 32;
 
-/// What stands at some paths: of each a file or none, and the paths below those that are folders.
+/// How many paths a thread looks at before it leaves the rest, so that others can share it.
+const MOST: usize = 512;
+
+/// A walk through folders: the files that it found, and the paths that it left.
 #[derive(Drop)]
-pub(crate) struct Found {
-    files: Vec<Option<Stat>>,
-    below: Vec<String>,
-}
-
-impl Found {
-    fn new(alloc: Global) -> Found {
-        Found {
-            files: Vec::new(alloc),
-            below: Vec::new(alloc),
-        }
-    }
-
-    fn append(&mut self, mut more: Found) -> Result<(), AllocError> {
-        self.files.append(&mut more.files)?;
-        self.below.append(&mut more.below)
-    }
+pub(crate) struct Walk {
+    files: Vec<Entry>,
+    // The next one comes last.
+    left: Vec<String>,
+    // Memory that serves at each path.
+    whole: String,
+    names: Vec<u8>,
 }
 
 /// All regular files in a folder and below, in byte order of their paths, without following links.
-/// A name that vanishes meanwhile is not there. `look` looks at the paths of one depth.
-pub(crate) fn list_folder<R: Files, F: Fn(&[String]) -> io::Result<Found>>(
+/// A name that vanishes meanwhile is not there. `look` looks at some paths and at what is below, and
+/// may leave some of it.
+pub(crate) fn list_folder<R: Files, F: Fn(&[String]) -> io::Result<Walk>>(
     place: &Place<'_, R>,
     look: &F,
 ) -> io::Result<List<Entry>>
@@ -77,122 +67,122 @@ pub(crate) fn list_folder<R: Files, F: Fn(&[String]) -> io::Result<Found>>(
     Ok(in_order(place.alloc, files)?)
 }
 
-fn find_files<R: Files, F: Fn(&[String]) -> io::Result<Found>>(
+fn find_files<R: Files, F: Fn(&[String]) -> io::Result<Walk>>(
     place: &Place<'_, R>,
     look: &F,
 ) -> io::Result<Vec<Entry>>
     requires { F.IsAlwaysCallable look.now }
 {
-    let mut files = Vec::new(place.alloc);
-    let mut paths = Vec::new(place.alloc);
-    add_names(place, "", &mut paths)?;
+    let mut all = Walk::new(place.alloc)?;
+    place.put_path(&mut all.whole, "")?;
+    all.add_names(place, "")?;
     for _ in 0..u64::MAX {
-        if paths.is_empty() {
-            return Ok(files);
+        if all.left.is_empty() {
+            return Ok(all.files);
         }
-        let found = look(&paths)?;
-        add_files(&mut files, paths, found.files)?;
-        paths = found.below;
+        let mut paths = mem::replace(&mut all.left, Vec::new(place.alloc));
+        paths.sort()?;
+        all.append(look(&paths)?)?;
     }
     Err(io::Error::from(ErrorKind::Other))
 }
 
-// Adds those of the paths at which a file stands.
-fn add_files(
-    files: &mut Vec<Entry>,
-    paths: Vec<String>,
-    found: Vec<Option<Stat>>,
-) -> Result<(), AllocError> {
-    for (path, stat) in paths.into_iter().zip(found) {
-        if let Some(Stat { size, stamp }) = stat {
-            let path = Text::from(path);
-            files.push(Entry { path, size, stamp })?;
-        }
-    }
-    Ok(())
-}
-
-/// Looks at these paths in so many threads. The error is that of the first path that has one.
+/// Looks at these paths and at what is below, in so many threads. Few paths are not shared out:
+/// this thread looks at them and below, until it can know of enough. Which error is told, where
+/// there are several, depends on the folder and the number of threads alone.
 pub(crate) fn look_in_threads<R: Files + Threads + Sync>(
     place: &Place<'_, R>,
     paths: &[String],
     threads: usize,
-) -> io::Result<Found>
+) -> io::Result<Walk>
 where
     R::File: Send,
     R::Dir: Send,
 {
-    let look = |some: &[String]| look_at(place, some);
-    let mut all = Found::new(place.alloc);
-    for (_, found) in in_stretches(place.rt, place.alloc, paths, threads, &look)? {
-        all.append(found?)?;
+    let enough = threads.saturating_mul(ENOUGH);
+    if paths.len() < enough {
+        return look_below(place, paths, enough);
+    }
+    let look = |some: &[String]| look_below(place, some, MOST);
+    let mut all = Walk::new(place.alloc)?;
+    for (_, walk) in in_stretches(place.rt, place.alloc, paths, threads, &look)? {
+        all.append(walk?)?;
     }
     Ok(all)
 }
 
-/// Looks at each of these paths.
-pub(crate) fn look_at<R: Files>(place: &Place<'_, R>, paths: &[String]) -> io::Result<Found> {
-    let mut found = Found::new(place.alloc);
-    let mut whole = String::new(place.alloc);
-    for path in paths {
-        place.put_path(&mut whole, path.as_str())?;
-        let stat = match fs::symlink_metadata(place.rt, whole.as_str()) {
-            Err(error) if is_gone(&error) => None,
-            data => look_at_one(place, path.as_str(), &data?, &mut found.below)?,
-        };
-        found.files.push(stat)?;
-    }
-    Ok(found)
-}
-
-// A regular file is found, the names in a folder are left to be looked at, and anything else is
-// passed over.
-fn look_at_one<R: Files>(
+/// Looks at these paths and at what is below, at so many paths in all. It goes through a folder
+/// before it looks at the name behind it, so that it finds files almost in the order of a listing.
+pub(crate) fn look_below<R: Files>(
     place: &Place<'_, R>,
-    path: &str,
-    data: &Metadata,
-    below: &mut Vec<String>,
-) -> io::Result<Option<Stat>> {
-    if data.is_dir() {
-        match add_names(place, path, below) {
-            Err(error) if is_gone(&error) => {}
-            added => added?,
-        }
-    }
-    if !data.is_file() {
-        return Ok(None);
-    }
-    let nanoseconds = u64::try_from(data.mtime_nsec()).unwrap_or(0);
-    Ok(Some(Stat {
-        size: data.len(),
-        stamp: stamp_of(data.mtime(), nanoseconds),
-    }))
-}
-
-// Adds the paths of the names in a folder, in byte order.
-fn add_names<R: Files>(
-    place: &Place<'_, R>,
-    folder: &str,
-    paths: &mut Vec<String>,
-) -> io::Result<()> {
-    let mut whole = join(place.alloc, place.folder, folder)?;
-    if !whole.is_empty() {
-        whole.push('/')?;
-    }
-    let mut open = place.rt.open_dir(whole.as_str())?;
-    let mut names = [0u8; NAMES];
-    let listed = paths.len();
-    for _ in 0..u64::MAX {
-        let count = open.read(&mut names)?;
-        if count == 0 {
+    paths: &[String],
+    most: usize,
+) -> io::Result<Walk> {
+    let mut walk = Walk::new(place.alloc)?;
+    walk.left = Vec::from_clones(place.alloc, paths)?;
+    walk.left.reverse();
+    for _ in 0..most {
+        let Some(path) = walk.left.pop() else {
             break;
+        };
+        walk.look_at(place, path)?;
+    }
+    Ok(walk)
+}
+
+impl Walk {
+    fn new(alloc: Global) -> Result<Walk, AllocError> {
+        Ok(Walk {
+            files: Vec::new(alloc),
+            left: Vec::new(alloc),
+            whole: String::new(alloc),
+            names: vec![in alloc; 0; NAMES]?,
+        })
+    }
+
+    fn append(&mut self, mut more: Walk) -> Result<(), AllocError> {
+        self.files.append(&mut more.files)?;
+        self.left.append(&mut more.left)
+    }
+
+    // A regular file is found, the names in a folder are left to be looked at, and anything else is
+    // passed over.
+    fn look_at<R: Files>(&mut self, place: &Place<'_, R>, path: String) -> io::Result<()> {
+        place.put_path(&mut self.whole, path.as_str())?;
+        let data = match fs::symlink_metadata(place.rt, self.whole.as_str()) {
+            Err(error) if is_gone(&error) => return Ok(()),
+            data => data?,
+        };
+        if data.is_file() {
+            self.files.push(entry_of(path, &data))?;
+        } else if data.is_dir() {
+            match self.add_names(place, path.as_str()) {
+                Err(error) if is_gone(&error) => {}
+                added => added?,
+            }
         }
-        take_names(place.alloc, folder, &names[..count], paths)?;
+        Ok(())
     }
-    if let Some(added) = paths.as_mut_slice().get_mut(listed..) {
-        added.sort(place.alloc)?;
+
+    // Leaves the paths of the names in a folder, which the system has by the path `whole`.
+    fn add_names<R: Files>(&mut self, place: &Place<'_, R>, folder: &str) -> io::Result<()> {
+        if !self.whole.is_empty() {
+            self.whole.push('/')?;
+        }
+        let mut open = place.rt.open_dir(self.whole.as_str())?;
+        let known = self.left.len();
+        for _ in 0..u64::MAX {
+            let count = open.read(&mut self.names)?;
+            if count == 0 {
+                break;
+            }
+            take_names(place.alloc, folder, &self.names[..count], &mut self.left)?;
+        }
+        if let Some(added) = self.left.as_mut_slice().get_mut(known..) {
+            added.sort_by(place.alloc, |a: &String, b: &String| b.cmp(a))?;
+        }
+        Ok(())
     }
-    Ok(())
 }
 
 // Adds the paths of these names, which end in a NUL. The folder itself and the one above it are
@@ -212,6 +202,15 @@ fn take_names(
         }
     }
     Ok(())
+}
+
+fn entry_of(path: String, data: &Metadata) -> Entry {
+    let nanoseconds = u64::try_from(data.mtime_nsec()).unwrap_or(0);
+    Entry {
+        path: Text::from(path),
+        size: data.len(),
+        stamp: stamp_of(data.mtime(), nanoseconds),
+    }
 }
 
 /// Files that are sorted by their paths, as a listing: of those at one path the first.

@@ -5,7 +5,7 @@ use std::sync::atomic::{AtomicUsize, Ordering};
 use std::thread::{self, Threads};
 
 /// How many things of a list a thread takes at a time.
-const STRETCH: usize = 32;
+const STRETCH: usize = 16;
 
 /// Calls `work` at each stretch of a list, in so many threads, and gives the results in the order
 /// of the list. One thread, or a list of one stretch, starts none: this thread does it.

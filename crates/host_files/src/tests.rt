@@ -1,14 +1,18 @@
 //! Real folders that one thread reads, and several.
 use crate::DirStore;
 use file_store::{Entry, Store};
-use std::alloc::Global;
+use std::alloc::{AllocError, Global};
 use std::path::PathBuf;
 use std::process::Abort;
 use std::test::Fail;
 use std::{env, fs, io, process, str};
 
-/// How many files a test reads, which are many times as many as a thread takes at a time.
-const FILES: usize = 300;
+/// How many files a test reads, which are many times as many as a thread takes at a time, and more
+/// below one folder than a thread looks at before it leaves the rest.
+const FILES: usize = 1500;
+
+/// How many of them stand beside the folder in which all others are: enough to be shared out.
+const BESIDE: usize = 100;
 
 /// How many threads read them.
 const THREADS: usize = 4;
@@ -62,15 +66,22 @@ fn several_threads_tell_a_fault(rt: HostRuntime) -> Result<(), Fail> {
     Ok(fs::remove_dir_all(&rt, folder.as_str())?)
 }
 
-// Files in nested folders, and a file beside a folder whose path begins with the same name.
+// Files beside a folder and in folders below it, and one whose path begins as that of a folder.
 fn write_files<S: Store>(alloc: Global, store: &mut S) -> Result<(), Fail> {
     for number in 0..FILES {
-        let (outer, inner) = (number % 7, number % 5);
-        let path = format!(in alloc; "{outer}/{inner}/file {number}")?;
+        let path = path_of(alloc, number)?;
         let done = store.write(alloc, path.as_str(), path.as_bytes());
         done.ok().ok_or("a write")?;
     }
-    Ok(store.write(alloc, "0-1", b"0-1").ok().ok_or("a write")?)
+    Ok(store.write(alloc, "b/0-1", b"0-1").ok().ok_or("a write")?)
+}
+
+fn path_of(alloc: Global, number: usize) -> Result<String, AllocError> {
+    if number < BESIDE {
+        return format!(in alloc; "a file {number}");
+    }
+    let (outer, inner) = (number % 7, number % 5);
+    format!(in alloc; "b/{outer}/{inner}/file {number}")
 }
 
 // A path of the folder by which the paths of its files are too long for the system, and its own is
