@@ -1,18 +1,12 @@
 //! The bytes of files that were read with their listing, until each is read for itself.
+use crate::reading::{ReadFile, Reading};
 use std::alloc::Global;
 
 /// The bytes of files by their paths. They are taken in the order of the listing without a search.
 #[derive(Drop)]
 pub(crate) struct Held {
     // The last one of the listing comes first.
-    files: Vec<HeldFile>,
-}
-
-/// The bytes of a file.
-#[derive(Drop)]
-pub(crate) struct HeldFile {
-    pub(crate) path: String,
-    pub(crate) bytes: Vec<u8>,
+    files: Vec<ReadFile>,
 }
 
 impl Held {
@@ -23,23 +17,25 @@ impl Held {
     }
 
     /// These files, which are in the order of their listing.
-    pub(crate) fn of(mut files: Vec<HeldFile>) -> Held {
+    pub(crate) fn of(mut files: Vec<ReadFile>) -> Held {
         files.reverse();
         Held { files }
     }
 
-    /// Takes the bytes of a file, which are held no more.
+    /// Takes the bytes of a file that could be read. They are held no more.
     pub(crate) fn take(&mut self, path: &str) -> Option<Vec<u8>> {
-        let file = match self.files.last() {
+        let ReadFile { path: _, reading } = match self.files.last() {
             Some(next) if next.path.as_str() == path => self.files.pop()?,
             _ => self.remove(path)?,
         };
-        let HeldFile { path: _, bytes } = file;
-        Some(bytes)
+        match reading {
+            Reading::Read(bytes) => Some(bytes),
+            Reading::Gone | Reading::Failed => None,
+        }
     }
 
-    fn remove(&mut self, path: &str) -> Option<HeldFile> {
-        let order = |file: &HeldFile| path.cmp(file.path.as_str());
+    fn remove(&mut self, path: &str) -> Option<ReadFile> {
+        let order = |file: &ReadFile| path.cmp(file.path.as_str());
         match self.files.binary_search_by(order) {
             Ok(at) => Some(self.files.remove(at)),
             Err(_) => None,

@@ -1,14 +1,14 @@
 //! What a listing found: its entries, and the bytes of their files.
-ghost use Rattle.std.specs.Prelude.{◌≡◌, true};
+ghost use Rattle.std.specs.Prelude.{◌≡◌, true, IfOk};
 ghost use Rattle.file_store.specs.Entries.{are_listed_in_order};
 
-use crate::held::{Held, HeldFile};
+use crate::held::Held;
 use crate::listing::{Walk, in_order, list_folder};
 use crate::place::Place;
-use crate::reading::Reading;
+use crate::reading::{ReadFile, Reading};
 use file_store::{Entry, check_limits};
 use msb_values::List;
-use std::alloc::Global;
+use std::alloc::{AllocError, Global};
 use std::io;
 use std::rt::Files;
 
@@ -27,7 +27,7 @@ impl Listed {
     where
         R: Files,
         L: Fn(&[String]) -> io::Result<Walk>,
-        F: Fn(&[Entry]) -> io::Result<Vec<Reading>>,
+        F: Fn(&[Entry]) -> io::Result<Vec<ReadFile>>,
         requires look { L.IsAlwaysCallable look.now }
         requires read { F.IsAlwaysCallable read.now }
     {
@@ -36,32 +36,35 @@ impl Listed {
             let held = Held::new(place.alloc);
             return Ok(Listed { entries, held });
         }
-        let readings = read(entries.as_slice())?;
-        Listed::with_bytes(place.alloc, entries, readings)
-    }
-
-    // A file that has vanished is listed no more. One that can't be read stays listed, so that its
-    // path is told when it is read for itself.
-    fn with_bytes(
-        alloc: Global,
-        entries: List<Entry>,
-        readings: Vec<Reading>,
-    ) -> io::Result<Listed> {
-        let mut there = Vec::with_capacity(alloc, entries.len())?;
-        let mut held = Vec::with_capacity(alloc, entries.len())?;
-        for (entry, reading) in entries.into_vec().into_iter().zip(readings) {
-            match reading {
-                Reading::Gone => continue,
-                Reading::Failed => {}
-                Reading::Read(bytes) => {
-                    let path = String::from_str(alloc, entry.path.as_str())?;
-                    held.push(HeldFile { path, bytes })?;
-                }
-            }
-            there.push(entry)?;
-        }
-        let entries = in_order(alloc, there)?;
-        let held = Held::of(held);
+        let files = read(entries.as_slice())?;
+        let entries = still_there(place.alloc, entries, &files)?;
+        let held = Held::of(files);
         Ok(Listed { entries, held })
     }
+}
+
+// A file that has vanished is listed no more. One that can't be read stays listed, so that its path
+// is told when it is read for itself.
+fn still_there(
+    alloc: Global,
+    entries: List<Entry>,
+    files: &[ReadFile],
+) -> Result<List<Entry>, AllocError>
+    requires { are_listed_in_order entries ≡ true }
+    ensures { IfOk result (λ l. are_listed_in_order l ≡ true) }
+{
+    if !files.iter().any(|file| is_gone(file)) {
+        return Ok(entries);
+    }
+    let mut there = Vec::with_capacity(alloc, entries.len())?;
+    for (entry, file) in entries.into_vec().into_iter().zip(files) {
+        if !is_gone(file) {
+            there.push(entry)?;
+        }
+    }
+    in_order(alloc, there)
+}
+
+fn is_gone(file: &ReadFile) -> bool {
+    matches!(file.reading, Reading::Gone)
 }

@@ -18,20 +18,27 @@ pub(crate) enum Reading {
     Failed,
 }
 
+/// The path of a listed file, and what came of its reading.
+#[derive(Drop)]
+pub(crate) struct ReadFile {
+    pub(crate) path: String,
+    pub(crate) reading: Reading,
+}
+
 /// Reads these files in so many threads.
 pub(crate) fn read_in_threads<R: Files + Threads + Sync>(
     place: &Place<'_, R>,
     entries: &[Entry],
     threads: usize,
-) -> io::Result<Vec<Reading>>
+) -> io::Result<Vec<ReadFile>>
 where
     R::File: Send,
     R::Dir: Send,
 {
     let read = |some: &[Entry]| read_files(place, some);
     let mut all = Vec::with_capacity(place.alloc, entries.len())?;
-    for (_, readings) in in_stretches(place.rt, place.alloc, entries, threads, &read)? {
-        all.append(&mut readings?)?;
+    for (_, files) in in_stretches(place.rt, place.alloc, entries, threads, &read)? {
+        all.append(&mut files?)?;
     }
     Ok(all)
 }
@@ -40,8 +47,8 @@ where
 pub(crate) fn read_files<R: Files>(
     place: &Place<'_, R>,
     entries: &[Entry],
-) -> io::Result<Vec<Reading>> {
-    let mut readings = Vec::with_capacity(place.alloc, entries.len())?;
+) -> io::Result<Vec<ReadFile>> {
+    let mut files = Vec::with_capacity(place.alloc, entries.len())?;
     let mut whole = String::new(place.alloc);
     for entry in entries {
         place.put_path(&mut whole, entry.path.as_str())?;
@@ -50,9 +57,10 @@ pub(crate) fn read_files<R: Files>(
             Err(error) if is_gone(&error) => Reading::Gone,
             Err(_) => Reading::Failed,
         };
-        readings.push(reading)?;
+        let path = String::from_str(place.alloc, entry.path.as_str())?;
+        files.push(ReadFile { path, reading })?;
     }
-    Ok(readings)
+    Ok(files)
 }
 
 /// The first `most` bytes of the file at a path. One read gives as many as are expected, where the
