@@ -27,6 +27,8 @@ KINDS = {"address space": resource.RLIMIT_AS, "data": resource.RLIMIT_DATA}
 SEED, SIZE = 7, 100
 STEP = 64 * 1024
 LEAST, MOST = 64 * 1024, 256 * 1024 * 1024
+# The system chooses anew for each run where a program lies, and so how much it takes to start.
+STARTS = 20
 
 
 class Limited:
@@ -43,10 +45,14 @@ class Limited:
                              check=False, capture_output=True, timeout=SECONDS, preexec_fn=restrict)
         return run.returncode, run.stdout
 
+    def starts(self, limit: int) -> bool:
+        """Whether the program can tell that there are no words, in each of some runs."""
+        return all(self.run(Path("/"), [], limit)[0] == 2 for _ in range(STARTS))
+
     def least_limit(self) -> int:
-        """The least limit at which the program can tell that there are no words."""
+        """The least limit at which the program starts."""
         for limit in range(LEAST, MOST, STEP):
-            if self.run(Path("/"), [], limit)[0] == 2:
+            if self.starts(limit):
                 return limit
         sys.exit(f"little_memory.py: {self.program} can't be started")
 
