@@ -3,7 +3,7 @@ ghost use Rattle.std.specs.Prelude.{◌≡◌, true, IfOk};
 ghost use Rattle.file_store.specs.Entries.{are_listed_in_order};
 
 use crate::held::Held;
-use crate::listing::{Walk, in_order, list_folder};
+use crate::listing::{Found, in_order, list_folder};
 use crate::place::Place;
 use crate::reading::{ReadFile, Reading};
 use file_store::{Entry, check_limits};
@@ -22,11 +22,11 @@ pub(crate) struct Listed {
 
 impl Listed {
     /// Lists a folder, and reads the files where they are within the limits of a load. `look` looks
-    /// at some paths and at what is below, and may leave some of it; `read` reads all files.
+    /// at some paths, and may leave some of what is below; `read` reads all files.
     pub(crate) fn of<R, L, F>(place: &Place<'_, R>, look: &L, read: &F) -> io::Result<Listed>
     where
         R: Files,
-        L: Fn(&[String]) -> io::Result<Walk>,
+        L: Fn(&[String]) -> io::Result<Found>,
         F: Fn(&[Entry]) -> io::Result<Vec<ReadFile>>,
         requires look { L.IsAlwaysCallable look.now }
         requires read { F.IsAlwaysCallable read.now }
@@ -37,7 +37,7 @@ impl Listed {
             return Ok(Listed { entries, held });
         }
         let files = read(entries.as_slice())?;
-        let entries = still_there(place.alloc, entries, &files)?;
+        let (entries, files) = still_there(place.alloc, entries, files)?;
         let held = Held::of(files);
         Ok(Listed { entries, held })
     }
@@ -48,21 +48,23 @@ impl Listed {
 fn still_there(
     alloc: Global,
     entries: List<Entry>,
-    files: &[ReadFile],
-) -> Result<List<Entry>, AllocError>
+    files: Vec<ReadFile>,
+) -> Result<(List<Entry>, Vec<ReadFile>), AllocError>
     requires { are_listed_in_order entries ≡ true }
-    ensures { IfOk result (λ l. are_listed_in_order l ≡ true) }
+    ensures { IfOk result (λ there. are_listed_in_order there.0 ≡ true) }
 {
     if !files.iter().any(|file| is_gone(file)) {
-        return Ok(entries);
+        return Ok((entries, files));
     }
-    let mut there = Vec::with_capacity(alloc, entries.len())?;
+    let mut listed = Vec::with_capacity(alloc, entries.len())?;
+    let mut read = Vec::with_capacity(alloc, files.len())?;
     for (entry, file) in entries.into_vec().into_iter().zip(files) {
-        if !is_gone(file) {
-            there.push(entry)?;
+        if !is_gone(&file) {
+            listed.push(entry)?;
+            read.push(file)?;
         }
     }
-    in_order(alloc, there)
+    Ok((in_order(alloc, listed)?, read))
 }
 
 fn is_gone(file: &ReadFile) -> bool {

@@ -38,24 +38,37 @@ const NAMES: usize = 16 * 1024;
 /// How many paths for each thread are enough to be shared out.
 const ENOUGH: usize = 32;
 
-/// How many paths a thread looks at before it leaves the rest, so that others can share it.
+/// How many paths a thread looks at, of those that it took and below, before it leaves the rest, so
+/// that others can share it.
 const MOST: usize = 512;
 
-/// A walk through folders: the files that it found, and the paths that it left.
+/// What was found in folders: files, and paths that were not looked at yet.
 #[derive(Drop)]
-pub(crate) struct Walk {
+pub(crate) struct Found {
     files: Vec<Entry>,
     // The next one comes last.
     left: Vec<String>,
-    // Memory that serves at each path.
+}
+
+impl Found {
+    fn append(&mut self, mut more: Found) -> Result<(), AllocError> {
+        self.files.append(&mut more.files)?;
+        self.left.append(&mut more.left)
+    }
+}
+
+/// A walk through folders, with memory that serves at each path.
+#[derive(Drop)]
+struct Walk {
+    found: Found,
     whole: String,
     names: Vec<u8>,
 }
 
 /// All regular files in a folder and below, in byte order of their paths, without following links.
-/// A name that vanishes meanwhile is not there. `look` looks at some paths and at what is below, and
-/// may leave some of it.
-pub(crate) fn list_folder<R: Files, F: Fn(&[String]) -> io::Result<Walk>>(
+/// A name that vanishes meanwhile is not there. `look` looks at some paths, and may leave some of
+/// what is below.
+pub(crate) fn list_folder<R: Files, F: Fn(&[String]) -> io::Result<Found>>(
     place: &Place<'_, R>,
     look: &F,
 ) -> io::Result<List<Entry>>
@@ -67,15 +80,16 @@ pub(crate) fn list_folder<R: Files, F: Fn(&[String]) -> io::Result<Walk>>(
     Ok(in_order(place.alloc, files)?)
 }
 
-fn find_files<R: Files, F: Fn(&[String]) -> io::Result<Walk>>(
+fn find_files<R: Files, F: Fn(&[String]) -> io::Result<Found>>(
     place: &Place<'_, R>,
     look: &F,
 ) -> io::Result<Vec<Entry>>
     requires { F.IsAlwaysCallable look.now }
 {
-    let mut all = Walk::new(place.alloc)?;
-    place.put_path(&mut all.whole, "")?;
-    all.add_names(place, "")?;
+    let mut walk = Walk::new(place.alloc);
+    place.put_path(&mut walk.whole, "")?;
+    walk.add_names(place, "")?;
+    let mut all = walk.into_found();
     for _ in 0..u64::MAX {
         if all.left.is_empty() {
             return Ok(all.files);
@@ -87,28 +101,39 @@ fn find_files<R: Files, F: Fn(&[String]) -> io::Result<Walk>>(
     Err(io::Error::from(ErrorKind::Other))
 }
 
-/// Looks at these paths and at what is below, in so many threads. Few paths are not shared out:
-/// this thread looks at them and below, until it can know of enough. Which error is told, where
-/// there are several, depends on the folder and the number of threads alone.
+/// Looks at these paths and at what is below, in so many threads. Where there are few, this thread
+/// looks at each, and what is below is left: there may be enough to be shared out. Which error is
+/// told, where there are several, depends on the folder and the number of threads alone.
 pub(crate) fn look_in_threads<R: Files + Threads + Sync>(
     place: &Place<'_, R>,
     paths: &[String],
     threads: usize,
-) -> io::Result<Walk>
+) -> io::Result<Found>
 where
     R::File: Send,
     R::Dir: Send,
 {
-    let enough = threads.saturating_mul(ENOUGH);
-    if paths.len() < enough {
-        return look_below(place, paths, enough);
+    if paths.len() < threads.saturating_mul(ENOUGH) {
+        return look_at_each(place, paths);
     }
     let look = |some: &[String]| look_below(place, some, MOST);
-    let mut all = Walk::new(place.alloc)?;
-    for (_, walk) in in_stretches(place.rt, place.alloc, paths, threads, &look)? {
-        all.append(walk?)?;
+    let mut all = Found {
+        files: Vec::new(place.alloc),
+        left: Vec::new(place.alloc),
+    };
+    for (_, found) in in_stretches(place.rt, place.alloc, paths, threads, &look)? {
+        all.append(found?)?;
     }
     Ok(all)
+}
+
+// Looks at these paths, and leaves what is below.
+fn look_at_each<R: Files>(place: &Place<'_, R>, paths: &[String]) -> io::Result<Found> {
+    let mut walk = Walk::new(place.alloc);
+    for path in paths {
+        walk.look_at(place, String::from_str(place.alloc, path.as_str())?)?;
+    }
+    Ok(walk.into_found())
 }
 
 /// Looks at these paths and at what is below, at so many paths in all. It goes through a folder
@@ -117,32 +142,38 @@ pub(crate) fn look_below<R: Files>(
     place: &Place<'_, R>,
     paths: &[String],
     most: usize,
-) -> io::Result<Walk> {
-    let mut walk = Walk::new(place.alloc)?;
-    walk.left = Vec::from_clones(place.alloc, paths)?;
-    walk.left.reverse();
+) -> io::Result<Found> {
+    let mut walk = Walk::new(place.alloc);
+    walk.found.left = Vec::from_clones(place.alloc, paths)?;
+    walk.found.left.reverse();
     for _ in 0..most {
-        let Some(path) = walk.left.pop() else {
+        let Some(path) = walk.found.left.pop() else {
             break;
         };
         walk.look_at(place, path)?;
     }
-    Ok(walk)
+    Ok(walk.into_found())
 }
 
 impl Walk {
-    fn new(alloc: Global) -> Result<Walk, AllocError> {
-        Ok(Walk {
-            files: Vec::new(alloc),
-            left: Vec::new(alloc),
+    fn new(alloc: Global) -> Walk {
+        Walk {
+            found: Found {
+                files: Vec::new(alloc),
+                left: Vec::new(alloc),
+            },
             whole: String::new(alloc),
-            names: vec![in alloc; 0; NAMES]?,
-        })
+            names: Vec::new(alloc),
+        }
     }
 
-    fn append(&mut self, mut more: Walk) -> Result<(), AllocError> {
-        self.files.append(&mut more.files)?;
-        self.left.append(&mut more.left)
+    fn into_found(self) -> Found {
+        let Walk {
+            found,
+            whole: _,
+            names: _,
+        } = self;
+        found
     }
 
     // A regular file is found, the names in a folder are left to be looked at, and anything else is
@@ -154,7 +185,7 @@ impl Walk {
             data => data?,
         };
         if data.is_file() {
-            self.files.push(entry_of(path, &data))?;
+            self.found.files.push(entry_of(path, &data))?;
         } else if data.is_dir() {
             match self.add_names(place, path.as_str()) {
                 Err(error) if is_gone(&error) => {}
@@ -164,21 +195,29 @@ impl Walk {
         Ok(())
     }
 
-    // Leaves the paths of the names in a folder, which the system has by the path `whole`.
+    // Leaves the paths of the names in a folder, whose path for the system is `whole`.
     fn add_names<R: Files>(&mut self, place: &Place<'_, R>, folder: &str) -> io::Result<()> {
         if !self.whole.is_empty() {
             self.whole.push('/')?;
         }
+        if self.names.is_empty() {
+            self.names = vec![in place.alloc; 0; NAMES]?;
+        }
         let mut open = place.rt.open_dir(self.whole.as_str())?;
-        let known = self.left.len();
+        let known = self.found.left.len();
         for _ in 0..u64::MAX {
             let count = open.read(&mut self.names)?;
             if count == 0 {
                 break;
             }
-            take_names(place.alloc, folder, &self.names[..count], &mut self.left)?;
+            take_names(
+                place.alloc,
+                folder,
+                &self.names[..count],
+                &mut self.found.left,
+            )?;
         }
-        if let Some(added) = self.left.as_mut_slice().get_mut(known..) {
+        if let Some(added) = self.found.left.as_mut_slice().get_mut(known..) {
             added.sort_by(place.alloc, |a: &String, b: &String| b.cmp(a))?;
         }
         Ok(())

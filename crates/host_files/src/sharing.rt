@@ -4,7 +4,7 @@ use std::alloc::{AllocError, Global};
 use std::sync::atomic::{AtomicUsize, Ordering};
 use std::thread::{self, Threads};
 
-/// How many things of a list a thread takes at a time.
+/// How many things of a list a thread takes at a time: few, so that all threads end together.
 const STRETCH: usize = 16;
 
 /// Calls `work` at each stretch of a list, in so many threads, and gives the results in the order

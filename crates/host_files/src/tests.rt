@@ -7,12 +7,12 @@ use std::process::Abort;
 use std::test::Fail;
 use std::{env, fs, io, process, str};
 
-/// How many files a test reads, which are many times as many as a thread takes at a time, and more
-/// below one folder than a thread looks at before it leaves the rest.
+/// How many files a test reads: many times as many as a thread takes at a time, and more below one
+/// folder than a thread looks at before it leaves the rest.
 const FILES: usize = 1500;
 
 /// How many of them stand beside the folder in which all others are: enough to be shared out.
-const BESIDE: usize = 100;
+const BESIDE: usize = 200;
 
 /// How many threads read them.
 const THREADS: usize = 4;
