@@ -27,8 +27,6 @@ KINDS = {"address space": resource.RLIMIT_AS, "data": resource.RLIMIT_DATA}
 SEED, SIZE = 7, 100
 STEP = 64 * 1024
 LEAST, MOST = 64 * 1024, 256 * 1024 * 1024
-# The system chooses anew for each run where a program lies, and so how much it takes to start.
-STARTS = 20
 
 
 class Limited:
@@ -45,14 +43,10 @@ class Limited:
                              check=False, capture_output=True, timeout=SECONDS, preexec_fn=restrict)
         return run.returncode, run.stdout
 
-    def starts(self, limit: int) -> bool:
-        """Whether the program can tell that there are no words, in each of some runs."""
-        return all(self.run(Path("/"), [], limit)[0] == 2 for _ in range(STARTS))
-
     def least_limit(self) -> int:
-        """The least limit at which the program starts."""
+        """The least limit at which the program can tell that there are no words."""
         for limit in range(LEAST, MOST, STEP):
-            if self.starts(limit):
+            if self.run(Path("/"), [], limit)[0] == 2:
                 return limit
         sys.exit(f"little_memory.py: {self.program} can't be started")
 
