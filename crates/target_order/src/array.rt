@@ -108,9 +108,10 @@ fn layout_for(count: usize) -> (usize, usize)
     ensures enough { count ≤ result.1 * result.0 }
 {
     if count < MOST {
-        (count + 1, 1)
+        // Indices are divided by the width, so it isn't 0 in an empty array either.
+        (count.max(1), 1)
     } else {
-        (MOST, count / MOST + 1)
+        (MOST, count.div_ceil(MOST))
     }
 }
 
