@@ -98,12 +98,12 @@ pub fn hooks(
     Ok(hooks.lists)
 }
 
-/// What is hooked on each target, by its number, while the rows take their turns.
+/// What the rows read so far hook on each target, by its number.
 #[derive(Drop)]
 struct HookLists {
     /// The names of the rows that name the target.
     lists: Vec<List<Name>>,
-    /// The last turn in which the target was named.
+    /// The turn of the last row that names the target: the first row's is 1, and none's is 0.
     turns: Vec<usize>,
 }
 
