@@ -23,7 +23,8 @@ loop-at-preserved c =
     ∙ sym (get_or-map (λ (x : Bor TargetRow). x.now) c.args.rows.now at c.index-rows-at.result)
     in (
       hooks_more c.args.side rows at r c.args.numbers.now c.loop-at.hooks.lists.items
-          c.add.new.self.lists.items c.add.new.self.turns.items lt read c.loop-at.invariant.0 hooked,
+          c.add.new.self.lists.items c.add.new.self.turns.items lt read c.loop-at.invariant.0
+          hooked,
       hooked.turns_len,
       hooked.past,
     )

@@ -14,7 +14,8 @@ returns-clause-long g c =
     (c.in_ok-chunk.ensures ∙ (c.from.ensures ∙ c.in_ok-repeat.ensures))) in
     let all = ap joined chunks ∙ same_joined w c.loop.counter c.args.entry in
     let len = ap length all ∙ length-replicate (c.loop.counter * w) c.args.entry in
-    subst (λ n. c.args.count ≤ n) (sym (len ∙ ap (λ n. n * w) turns)) c.layout_for-width.ensures.enough
+    subst (λ n. c.args.count ≤ n) (sym (len ∙ ap (λ n. n * w) turns))
+    c.layout_for-width.ensures.enough
 
 pub returns-clause-same : goal.returns-clause-same
 returns-clause-same g c =
