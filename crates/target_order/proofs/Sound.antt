@@ -40,6 +40,7 @@ use Rattle.std.proofs.lemmas.List.{get_or-set_same, get_or-set_other}
 use Rattle.std.proofs.Math.Nat.{eq-or-lt_of_le}
 use Rattle.msb_laws.specs.Words.{Name}
 use Rattle.target_order.specs.declared.visits.Step.{Step}
+use Rattle.target_order.specs.declared.visits.Step.TheVariants.{Depends}
 use Rattle.target_order.specs.declared.visits.OpenVisit.{OpenVisit}
 use Rattle.target_order.specs.declared.visits.Asked.{Asked}
 use Rattle.target_order.specs.declared.visits.Asked.TheVariants.{
@@ -264,9 +265,13 @@ pub taken_is : (p : Progress) (step : Step) (names : List Name) (top : OpenVisit
     }) (taken p step names)
 taken_is p step names top visits flags errors at are run fails = rw (are, run, at, fails) refl
 
-pub visiting_is : (p : Progress) (depth : ℕ) (step : Step) (passed k : ℕ) (visits : List OpenVisit)
-    (front : ℕ) → visits ≡ marked_visits p.visits depth step passed ++ new_visit k ∷ [] →
-    front ≡ marked_passed p.passed depth passed
+-- the visit that is opened has no names, and stands inside the marked ones
+pub visiting_is : (p : Progress) (depth : ℕ) (step : Step) (passed k : ℕ)
+    (outer visits : List OpenVisit) (names : List Name) (front : ℕ)
+    → visits ≡ outer ++ record { target = k; step = Depends; passed = 0; names = names } ∷ []
+    → outer ≡ marked_visits p.visits depth step passed → names ≡ []
+    → front ≡ marked_passed p.passed depth passed
     → ◌≡◌ {A = Progress} (record p { visits = visits; passed = front; asked = Condition })
     (visiting p depth step passed k)
-visiting_is p depth step passed k visits front is at = rw (is, at) refl
+visiting_is p depth step passed k outer visits names front pushed marked none at =
+    rw (pushed, marked, none, at) refl
