@@ -117,7 +117,7 @@ fn take_record(
     for (number, segment) in run_record.get().segments.as_slice().iter().enumerate() {
         match segment {
             Segment::File(_) => journal.add(Entry::of_record(run, run_record, number)?)?,
-            Segment::Call(_, runs) => take_runs(journal, table, run, runs.as_slice())?,
+            Segment::Call(_, runs) => take_called(journal, table, run, runs.as_slice())?,
         }
     }
     Ok(())
@@ -125,7 +125,7 @@ fn take_record(
 
 // The runs of a call that the outer run has made, of which each stands in the table before it.
 #[cycle(replaying)]
-fn take_runs(
+fn take_called(
     journal: &mut Journal,
     table: &Table,
     outer: &RunRef,

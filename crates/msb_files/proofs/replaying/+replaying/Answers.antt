@@ -45,9 +45,9 @@ use Rattle.msb_files.proofs.ReplaySteps.{
 use Rattle.msb_files.proofs.replaying.+replaying.Goals as goal
 use Rattle.msb_files.proofs.replaying.+replaying.Goals.{
   take_record-in-File+in_ok-of_record-in-File+in_ok-add-in-File,
-  take_record-in-Call+in_ok-take_runs-in-Call,
-  take_runs-then-not-has_ended+in_ok-take_run,
-  take_runs-else-not-has_ended,
+  take_record-in-Call+in_ok-take_called-in-Call,
+  take_called-then-not-has_ended+in_ok-take_run,
+  take_called-else-not-has_ended,
 }
 
 pub take_run-take_record-requires : goal.take_run-take_record-requires
@@ -80,8 +80,8 @@ take_run-returns t c =
     ∙ ap Some (sym (is ∙ (ap (λ e. e ∷ after) entry
     ∙ end_is_new table run made journal after c.each_once.ensures.finished_once on gives))))
 
-pub take_record-take_runs-requires : goal.take_record-take_runs-requires
-take_record-take_runs-requires t c =
+pub take_record-take_called-requires : goal.take_record-take_called-requires
+take_record-take_called-requires t c =
     let one = replay (before c.args.run.now c.args.table.now.finished) in
     let segments = c.args.run_record.now.segments in
     let n = c.loop-number.number in
@@ -116,17 +116,17 @@ take_record-loop-number-preserved t c =
           w.in_ok-of_record-in-File.ensures)))
           ∙ (act_step one run segments n c.segment-item.result within at w.in-File.field-0
           c.loop-number.journal w.in-File.is ∙ c.loop-number.invariant)
-      | take_record-in-Call+in_ok-take_runs-in-Call w ↦
+      | take_record-in-Call+in_ok-take_called-in-Call w ↦
           ap (left one run (n + 1) segments) w.journal-is
           ∙ (call_step one run segments n c.segment-item.result within at w.in-Call.field-0
-          w.in-Call.runs c.loop-number.journal w.take_runs.new.journal w.in-Call.is
+          w.in-Call.runs c.loop-number.journal w.take_called.new.journal w.in-Call.is
           (ap (λ rs. replays one (map replays_run rs) c.loop-number.journal)
-          (sym w.as_slice.ensures) ∙ w.in_ok-take_runs-in-Call.ensures)
+          (sym w.as_slice.ensures) ∙ w.in_ok-take_called-in-Call.ensures)
           ∙ c.loop-number.invariant)
     ]
 
-pub take_runs-take_run-requires : goal.take_runs-take_run-requires
-take_runs-take_run-requires t c =
+pub take_called-take_run-requires : goal.take_called-take_run-requires
+take_called-take_run-requires t c =
     let table = c.args.table.now.finished in
     let outer = c.args.outer.now in
     let run = c.run-item.result in
@@ -149,8 +149,8 @@ take_runs-take_run-requires t c =
       ),
     )
 
-pub take_runs-loop-run-preserved : goal.take_runs-loop-run-preserved
-take_runs-loop-run-preserved t c =
+pub take_called-loop-run-preserved : goal.take_called-loop-run-preserved
+take_called-loop-run-preserved t c =
     let table = c.args.table.now.finished in
     let outer = c.args.outer.now in
     let one = replay (before outer table) in
@@ -161,7 +161,7 @@ take_runs-loop-run-preserved t c =
     let defined = run_defined one runs i run c.loop-run-test.true c.run-item.is journal
     (subst (λ o. IsSome o) (sym c.loop-run.invariant) c.requires) in
     elim c.if-not-has_ended.branch [
-      | take_runs-then-not-has_ended+in_ok-take_run w ↦ (
+      | take_called-then-not-has_ended+in_ok-take_run w ↦ (
           let goes_on : has (end_of run) journal ≡ false = search (rules, tests) in
           let there = replayed_in (before outer table) run journal goes_on defined in
           ap (replays one (map replays_run (drop (i + 1) runs))) w.journal-is
@@ -170,7 +170,7 @@ take_runs-loop-run-preserved t c =
           (sym
           (replays_before table outer run journal c.each_once.ensures.finished_once goes_on
           there) ∙ w.in_ok-take_run.ensures) ∙ c.loop-run.invariant))
-      | take_runs-else-not-has_ended w ↦
+      | take_called-else-not-has_ended w ↦
           ap (replays one (map replays_run (drop (i + 1) runs))) w.journal-is
           ∙ (run_step one runs i run c.loop-run-test.true c.run-item.is journal journal
           (replay-has (before outer table) run journal (search (rules, tests)))

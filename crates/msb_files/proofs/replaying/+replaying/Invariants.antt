@@ -9,8 +9,8 @@ decreases-take_run l = 3 * length (before l.run.now l.table.now.finished) + 2
 abbrev pub decreases-take_record : goal.decreases-take_record
 decreases-take_record l = 3 * length (before l.run.now l.table.now.finished) + 1
 
-abbrev pub decreases-take_runs : goal.decreases-take_runs
-decreases-take_runs l = 3 * length (before l.outer.now l.table.now.finished)
+abbrev pub decreases-take_called : goal.decreases-take_called
+decreases-take_called l = 3 * length (before l.outer.now l.table.now.finished)
 
 abbrev pub invariant-take_record-loop-number : goal.invariant-take_record-loop-number
 invariant-take_record-loop-number l =
@@ -19,8 +19,8 @@ invariant-take_record-loop-number l =
     ≡ replays (replay (before l.run l.table.finished)) (effects_from l.run 0 l.run_record.segments)
     l.initial.journal
 
-abbrev pub invariant-take_runs-loop-run : goal.invariant-take_runs-loop-run
-invariant-take_runs-loop-run l =
+abbrev pub invariant-take_called-loop-run : goal.invariant-take_called-loop-run
+invariant-take_called-loop-run l =
     replays (replay (before l.outer l.table.finished)) (map replays_run (drop l.run-index l.runs))
     l.journal
     ≡ replays (replay (before l.outer l.table.finished)) (map replays_run l.runs) l.initial.journal
