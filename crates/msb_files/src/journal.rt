@@ -33,7 +33,8 @@ use std::alloc::Global;
 use std::collections::BTreeSet;
 use std::marker::Model;
 
-/// How many entries a journal may hold in front of its layers, where each copy of it copies them.
+/// How many entries a settled journal may hold in front of its layers, where each copy of it copies
+/// them.
 const MOST: usize = 16;
 
 /// What a request knows of what runs have done to files and of the runs that have ended. (MSBuild
@@ -41,7 +42,9 @@ const MOST: usize = 16;
 ///
 /// A copy takes a time and room that grow with the logarithm of the number of entries, and shares
 /// the rest. So does the time of a look for a run, which takes no memory; one for the last act on a
-/// path, or for files below a folder, takes the square.
+/// path, or for files below a folder, takes the square. All this is so of a settled journal: until
+/// `settle`, a copy copies each entry that `take_runs` has put there, and a look for an act on a
+/// path goes through them.
 pub struct Journal {
     /// The newest entries, which no other journal shares.
     part: Part,
@@ -142,6 +145,8 @@ impl Journal {
     }
 
     /// The same entries, of which few stand in front of the layers, so that copies take little.
+    /// Want of memory drops the journal, so a caller who needs it then copies it before. (MSBuild
+    /// task.)
     pub fn settle(self, alloc: Global) -> Result<Journal, NoMemory>
         ensures { IfOk result (λ j. j ≡ self) }
     {

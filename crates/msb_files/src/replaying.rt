@@ -31,7 +31,7 @@ impl Journal {
     }
 
     /// Uses the records of runs, in order, as `replay` uses that of each. Want of memory leaves the
-    /// journal as it was.
+    /// journal as it was. (MSBuild task.)
     pub fn replay_all(
         &mut self,
         alloc: Global,
@@ -51,9 +51,10 @@ impl Journal {
         Ok(())
     }
 
-    /// Uses the records of runs, in order and in place, as `replay` uses that of each. Where there
-    /// is no memory, some of the entries may be there. What is to be copied is settled afterwards.
-    /// (MSBuild task.)
+    /// Uses the records of runs, in order and in place, as `replay` uses that of each; a journal
+    /// that is copied later is settled first. Want of memory leaves a journal of which nothing is
+    /// promised: some of the new entries may be there, and those of a run without its end. A caller
+    /// who wants the old journal copies it before. (MSBuild task.)
     pub fn take_runs(&mut self, table: &Table, runs: &[RunRef]) -> Result<(), NoMemory>
         requires { IsSome (replay_all table.now.finished runs.now self.old) }
         ensures { OnOk result (replay_all table.now.finished runs.now self.old ≡ Some self.new) }
