@@ -34,6 +34,17 @@ use msb_import::{ImportFault, resolve};
 use msb_values::{Cause, Copied, List, NoMemory, Text, unescape};
 use std::alloc::Global;
 
+/// A file that is laid out, and what it is laid out with.
+#[derive(Clone, Copy)]
+struct FileContext<'a> {
+    /// What the evaluation works with.
+    setting: Setting<'a>,
+    /// The paths of the files that import one another, from the project's own to this one.
+    chain: &'a List<Text>,
+    /// The path of the file.
+    file: &'a Text,
+}
+
 /// Lays out the file at a path, which the last of the chain imports. (How MSBuild builds projects,
 /// evaluation phase.)
 #[cycle(laying)]
@@ -56,7 +67,12 @@ pub(crate) fn lay_file(
     };
     let longer = with_file(chain, path)?;
     let root = layout.trees.read(alloc, file)?;
-    lay_project(alloc, setting, layout, &longer, &file.path, root)
+    let context = FileContext {
+        setting: *setting,
+        chain: &longer,
+        file: &file.path,
+    };
+    lay_project(alloc, &context, layout, root)
 }
 
 /// The chain with one more file.
@@ -72,43 +88,41 @@ fn with_file(chain: &List<Text>, file: &Text) -> Result<List<Text>, NoMemory>
 #[cycle(laying)]
 fn lay_project(
     alloc: Global,
-    setting: &Setting<'_>,
+    context: &FileContext<'_>,
     layout: &mut Layout,
-    chain: &List<Text>,
-    file: &Text,
     root: Element,
 ) -> Result<(), EvalFault>
-    requires { IsKept (seen_setting setting.now) layout.old }
+    requires { IsKept (seen_setting context.now.setting) layout.old }
     ensures laid { GivesFault (λ _. seen_laid layout.new) result
-        (lay_project (lay_within (64 - length chain.now) (seen_setting setting.now))
-        (seen_setting setting.now) chain.now file.now (seen_laid layout.old) (view root)) }
-    ensures kept { OnOk result (IsKept (seen_setting setting.now) layout.new) }
+        (lay_project
+        (lay_within (64 - length context.now.chain.now) (seen_setting context.now.setting))
+        (seen_setting context.now.setting) context.now.chain.now context.now.file.now
+        (seen_laid layout.old) (view root)) }
+    ensures kept { OnOk result (IsKept (seen_setting context.now.setting) layout.new) }
 {
     let (element, children) = root.split(alloc);
-    layout.add_file(file)?;
-    layout.extend(alloc, setting, file, element)?;
-    lay_all(alloc, setting, layout, chain, file, children)
+    layout.add_file(context.file)?;
+    layout.extend(alloc, &context.setting, context.file, element)?;
+    lay_all(alloc, context, layout, children)
 }
 
 /// Each of some elements in turn.
 #[cycle(laying)]
 fn lay_all(
     alloc: Global,
-    setting: &Setting<'_>,
+    context: &FileContext<'_>,
     layout: &mut Layout,
-    chain: &List<Text>,
-    file: &Text,
     children: Vec<Element>,
 ) -> Result<(), EvalFault>
-    requires { IsKept (seen_setting setting.now) layout.old }
+    requires { IsKept (seen_setting context.now.setting) layout.old }
     ensures laid { GivesFault (λ _. seen_laid layout.new) result
-        (lay_all (lay_within (64 - length chain.now) (seen_setting setting.now))
-        (seen_setting setting.now) chain.now file.now (seen_laid layout.old)
-        (views children.items)) }
-    ensures kept { OnOk result (IsKept (seen_setting setting.now) layout.new) }
+        (lay_all (lay_within (64 - length context.now.chain.now) (seen_setting context.now.setting))
+        (seen_setting context.now.setting) context.now.chain.now context.now.file.now
+        (seen_laid layout.old) (views children.items)) }
+    ensures kept { OnOk result (IsKept (seen_setting context.now.setting) layout.new) }
 {
     for child in children {
-        lay_one(alloc, setting, layout, chain, file, child)?;
+        lay_one(alloc, context, layout, child)?;
     }
     Ok(())
 }
@@ -116,33 +130,32 @@ fn lay_all(
 #[cycle(laying)]
 fn lay_one(
     alloc: Global,
-    setting: &Setting<'_>,
+    context: &FileContext<'_>,
     layout: &mut Layout,
-    chain: &List<Text>,
-    file: &Text,
     child: Element,
 ) -> Result<(), EvalFault>
-    requires { IsKept (seen_setting setting.now) layout.old }
+    requires { IsKept (seen_setting context.now.setting) layout.old }
     ensures laid { GivesFault (λ _. seen_laid layout.new) result
-        (lay (lay_within (64 - length chain.now) (seen_setting setting.now))
-        (seen_setting setting.now) chain.now file.now (seen_laid layout.old) (view child)) }
-    ensures kept { OnOk result (IsKept (seen_setting setting.now) layout.new) }
+        (lay (lay_within (64 - length context.now.chain.now) (seen_setting context.now.setting))
+        (seen_setting context.now.setting) context.now.chain.now context.now.file.now
+        (seen_laid layout.old) (view child)) }
+    ensures kept { OnOk result (IsKept (seen_setting context.now.setting) layout.new) }
 {
     match Part::of(child.name()) {
         Part::Imported => {
             let element = PlacedElement {
-                file: file.as_str(),
+                file: context.file.as_str(),
                 element: &child,
             };
-            lay_import(alloc, setting, layout, chain, &element)
+            lay_import(alloc, context, layout, &element)
         }
-        Part::Grouped => lay_group(alloc, setting, layout, chain, file, child),
+        Part::Grouped => lay_group(alloc, context, layout, child),
         Part::Chosen => {
             let (_, choices) = child.split(alloc);
-            lay_chosen(alloc, setting, layout, chain, file, choices)
+            lay_chosen(alloc, context, layout, choices)
         }
         Part::PassedOver => Ok(()),
-        Part::LaidOut => layout.extend(alloc, setting, file, child),
+        Part::LaidOut => layout.extend(alloc, &context.setting, context.file, child),
     }
 }
 
@@ -150,26 +163,28 @@ fn lay_one(
 #[cycle(laying)]
 fn lay_group(
     alloc: Global,
-    setting: &Setting<'_>,
+    context: &FileContext<'_>,
     layout: &mut Layout,
-    chain: &List<Text>,
-    file: &Text,
     group: Element,
 ) -> Result<(), EvalFault>
     requires group { part_of (name_of (view group)) ≡ Grouped }
-    requires kept { IsKept (seen_setting setting.now) layout.old }
+    requires kept { IsKept (seen_setting context.now.setting) layout.old }
     ensures laid { GivesFault (λ _. seen_laid layout.new) result
-        (lay (lay_within (64 - length chain.now) (seen_setting setting.now))
-        (seen_setting setting.now) chain.now file.now (seen_laid layout.old) (view group)) }
-    ensures kept { OnOk result (IsKept (seen_setting setting.now) layout.new) }
+        (lay (lay_within (64 - length context.now.chain.now) (seen_setting context.now.setting))
+        (seen_setting context.now.setting) context.now.chain.now context.now.file.now
+        (seen_laid layout.old) (view group)) }
+    ensures kept { OnOk result (IsKept (seen_setting context.now.setting) layout.new) }
 {
     let element = PlacedElement {
-        file: file.as_str(),
+        file: context.file.as_str(),
         element: &group,
     };
-    if layout.properties.holds_in_file(alloc, setting, &element)? {
+    if layout
+        .properties
+        .holds_in_file(alloc, &context.setting, &element)?
+    {
         let (_, imports) = group.split(alloc);
-        return lay_all(alloc, setting, layout, chain, file, imports);
+        return lay_all(alloc, context, layout, imports);
     }
     Ok(())
 }
@@ -179,30 +194,29 @@ fn lay_group(
 #[cycle(laying)]
 fn lay_chosen(
     alloc: Global,
-    setting: &Setting<'_>,
+    context: &FileContext<'_>,
     layout: &mut Layout,
-    chain: &List<Text>,
-    file: &Text,
     choices: Vec<Element>,
 ) -> Result<(), EvalFault>
-    requires { IsKept (seen_setting setting.now) layout.old }
+    requires { IsKept (seen_setting context.now.setting) layout.old }
     ensures laid { GivesFault (λ _. seen_laid layout.new) result
-        (lay_chosen (lay_within (64 - length chain.now) (seen_setting setting.now))
-        (seen_setting setting.now) chain.now file.now (seen_laid layout.old)
-        (views choices.items)) }
-    ensures kept { OnOk result (IsKept (seen_setting setting.now) layout.new) }
+        (lay_chosen
+        (lay_within (64 - length context.now.chain.now) (seen_setting context.now.setting))
+        (seen_setting context.now.setting) context.now.chain.now context.now.file.now
+        (seen_laid layout.old) (views choices.items)) }
+    ensures kept { OnOk result (IsKept (seen_setting context.now.setting) layout.new) }
 {
     for choice in choices {
         let element = PlacedElement {
-            file: file.as_str(),
+            file: context.file.as_str(),
             element: &choice,
         };
         if layout
             .properties
-            .holds_in_project(alloc, setting, &element)?
+            .holds_in_project(alloc, &context.setting, &element)?
         {
             let (_, children) = choice.split(alloc);
-            return lay_all(alloc, setting, layout, chain, file, children);
+            return lay_all(alloc, context, layout, children);
         }
     }
     Ok(())
@@ -212,23 +226,33 @@ fn lay_chosen(
 #[cycle(laying)]
 fn lay_import(
     alloc: Global,
-    setting: &Setting<'_>,
+    context: &FileContext<'_>,
     layout: &mut Layout,
-    chain: &List<Text>,
     element: &PlacedElement<'_>,
 ) -> Result<(), EvalFault>
-    requires { IsKept (seen_setting setting.now) layout.old }
+    requires { IsKept (seen_setting context.now.setting) layout.old }
     ensures laid { GivesFault (λ _. seen_laid layout.new) result
-        (lay_import (lay_within (64 - length chain.now) (seen_setting setting.now))
-        (seen_setting setting.now) chain.now (seen_laid layout.old) (seen_element element.now)) }
-    ensures kept { OnOk result (IsKept (seen_setting setting.now) layout.new) }
+        (lay_import
+        (lay_within (64 - length context.now.chain.now) (seen_setting context.now.setting))
+        (seen_setting context.now.setting) context.now.chain.now (seen_laid layout.old)
+        (seen_element element.now)) }
+    ensures kept { OnOk result (IsKept (seen_setting context.now.setting) layout.new) }
 {
-    if !layout.properties.holds_in_file(alloc, setting, element)? {
+    if !layout
+        .properties
+        .holds_in_file(alloc, &context.setting, element)?
+    {
         return Ok(());
     }
-    let text = import_text(alloc, setting, &layout.properties, element)?;
-    let found = resolve(alloc, setting.tree, chain, &layout.files, text.as_str());
-    lay_found(alloc, setting, layout, chain, element, found)
+    let text = import_text(alloc, &context.setting, &layout.properties, element)?;
+    let found = resolve(
+        alloc,
+        context.setting.tree,
+        context.chain,
+        &layout.files,
+        text.as_str(),
+    );
+    lay_found(alloc, context, layout, element, found)
 }
 
 /// What an import brings in, or why it brings in nothing. A file that was laid out before is noted
@@ -236,21 +260,21 @@ fn lay_import(
 #[cycle(laying)]
 fn lay_found(
     alloc: Global,
-    setting: &Setting<'_>,
+    context: &FileContext<'_>,
     layout: &mut Layout,
-    chain: &List<Text>,
     element: &PlacedElement<'_>,
     found: Result<Text, ImportFault>,
 ) -> Result<(), EvalFault>
-    requires short { IfOk found (λ _. length chain.now < 64) }
-    requires kept { IsKept (seen_setting setting.now) layout.old }
+    requires short { IfOk found (λ _. length context.now.chain.now < 64) }
+    requires kept { IsKept (seen_setting context.now.setting) layout.old }
     ensures laid { GivesFault (λ _. seen_laid layout.new) result
-        (imported_as (lay_within (64 - length chain.now) (seen_setting setting.now)) chain.now
-        (seen_laid layout.old) (seen_element element.now) found) }
-    ensures kept { OnOk result (IsKept (seen_setting setting.now) layout.new) }
+        (imported_as
+        (lay_within (64 - length context.now.chain.now) (seen_setting context.now.setting))
+        context.now.chain.now (seen_laid layout.old) (seen_element element.now) found) }
+    ensures kept { OnOk result (IsKept (seen_setting context.now.setting) layout.new) }
 {
     match found {
-        Ok(path) => lay_file(alloc, setting, layout, chain, &path),
+        Ok(path) => lay_file(alloc, &context.setting, layout, context.chain, &path),
         Err(ImportFault::Duplicate(path)) => layout.add_duplicate(path),
         Err(ImportFault::Missing(path)) => Err(element.fault(alloc, Cause::MissingImport(path))),
         Err(ImportFault::ImportDepth) => Err(element.fault(alloc, Cause::ImportDepth)),

@@ -26,13 +26,14 @@ use Rattle.msb_properties.proofs.laying.+laying.Goals as goal
 
 pub lay_all-loop-child-preserved : goal.lay_all-loop-child-preserved
 lay_all-loop-child-preserved t c =
+    let context = c.args.context.now in
     let steps = c.in-Some.ensures.steps in
     let before = c.loop-child.invariant in
     let shorter = ap length steps.0 in
     record {
       laid = step.all_goes
-          (lay_within (64 - length c.args.chain.now) (seen_setting c.args.setting.now))
-          (seen_setting c.args.setting.now) c.args.chain.now c.args.file.now
+          (lay_within (64 - length context.chain.now) (seen_setting context.setting))
+          (seen_setting context.setting) context.chain.now context.file.now
           (seen_laid c.loop-child.layout) (seen_laid c.lay_one.new.layout) _ _ c.in-Some.child _
           steps.0 before.laid c.in_ok-lay_one.ensures.laid;
       kept = c.in_ok-lay_one.ensures.kept;
@@ -42,20 +43,22 @@ lay_all-loop-child-preserved t c =
 
 pub lay_all-returns-in_err-lay_one-clause-laid : goal.lay_all-returns-in_err-lay_one-clause-laid
 lay_all-returns-in_err-lay_one-clause-laid t c =
+    let context = c.args.context.now in
     let p = err_from_is_err_and c.from_residual.result c.from_residual.ensures.1 in
     rw (p.1, p.2)
     (passed_on (λ (f : EvalFault). f.cause) c.in_err-lay_one.field-0.0 _ _
     (λ f is.
-    step.all_stops (lay_within (64 - length c.args.chain.now) (seen_setting c.args.setting.now))
-    (seen_setting c.args.setting.now) c.args.chain.now c.args.file.now
+    step.all_stops (lay_within (64 - length context.chain.now) (seen_setting context.setting))
+    (seen_setting context.setting) context.chain.now context.file.now
     (seen_laid c.loop-child.layout) _ _ c.in-Some.child _ f c.in-Some.ensures.steps.0
     c.loop-child.invariant.laid is)
     c.in_err-lay_one.ensures.laid)
 
 pub lay_all-returns-clause-laid : goal.lay_all-returns-clause-laid
 lay_all-returns-clause-laid t c =
-    step.all_ends (lay_within (64 - length c.args.chain.now) (seen_setting c.args.setting.now))
-    (seen_setting c.args.setting.now) c.args.chain.now c.args.file.now
+    let context = c.args.context.now in
+    step.all_ends (lay_within (64 - length context.chain.now) (seen_setting context.setting))
+    (seen_setting context.setting) context.chain.now context.file.now
     (seen_laid c.loop-child.layout) _ _
     (nil_from_length (into_iter_items c.loop-child.child-iterator)
     (sym c.loop-child.invariant.counted ∙ c.in-None.ensures.steps.0))
@@ -64,22 +67,23 @@ lay_all-returns-clause-laid t c =
 pub lay_chosen-returns-in_err-holds_in_project-clause-laid :
     goal.lay_chosen-returns-in_err-holds_in_project-clause-laid
 lay_chosen-returns-in_err-holds_in_project-clause-laid t c =
+    let context = c.args.context.now in
     let p = err_from_is_err_and c.from_residual.result c.from_residual.ensures.1 in
     rw (p.1, p.2)
     (passed_on (λ (f : EvalFault). f.cause) c.in_err-holds_in_project.field-0.0 _ _
     (λ f is.
     step.chosen_stops
-    (lay_within (64 - length c.args.chain.now) (seen_setting c.args.setting.now))
-    (seen_setting c.args.setting.now) c.args.chain.now c.args.file.now
+    (lay_within (64 - length context.chain.now) (seen_setting context.setting))
+    (seen_setting context.setting) context.chain.now context.file.now
     (seen_laid c.loop-choice.layout) (seen_properties c.loop-choice.layout.properties)
     (into_iter_items c.loop-choice.choice-iterator) (into_iter_items c.next.new.self)
     c.in-Some.choice
-    (lay_chosen (lay_within (64 - length c.args.chain.now) (seen_setting c.args.setting.now))
-    (seen_setting c.args.setting.now) c.args.chain.now c.args.file.now
+    (lay_chosen (lay_within (64 - length context.chain.now) (seen_setting context.setting))
+    (seen_setting context.setting) context.chain.now context.file.now
     (seen_laid c.args.layout.now) (views c.args.choices.items)) f c.in-Some.ensures.steps.0
     c.loop-choice.invariant.laid c.loop-choice.invariant.kept.kept
     (ap
-    (λ f. holds_in_project (seen_setting c.args.setting.now)
+    (λ f. holds_in_project (seen_setting context.setting)
     (seen_properties c.loop-choice.layout.properties) (at f (view c.in-Some.choice)))
     (sym c.as_str.ensures) ∙ is))
     c.in_err-holds_in_project.ensures)
@@ -94,20 +98,21 @@ lay_chosen-lay_all-requires t c =
 
 pub lay_chosen-returns-then-branch-clause-laid : goal.lay_chosen-returns-then-branch-clause-laid
 lay_chosen-returns-then-branch-clause-laid t c =
+    let context = c.args.context.now in
     gives_same _ c.lay_all.result _ _
-    (step.chosen_takes (lay_within (64 - length c.args.chain.now) (seen_setting c.args.setting.now))
-    (seen_setting c.args.setting.now) c.args.chain.now c.args.file.now
+    (step.chosen_takes (lay_within (64 - length context.chain.now) (seen_setting context.setting))
+    (seen_setting context.setting) context.chain.now context.file.now
     (seen_laid c.loop-choice.layout) (seen_properties c.loop-choice.layout.properties)
     (into_iter_items c.loop-choice.choice-iterator) (into_iter_items c.next.new.self)
     c.in-Some.choice _ c.in-Some.ensures.steps.0 c.loop-choice.invariant.laid
     c.loop-choice.invariant.kept.kept
     (ap
-    (λ f. holds_in_project (seen_setting c.args.setting.now)
+    (λ f. holds_in_project (seen_setting context.setting)
     (seen_properties c.loop-choice.layout.properties) (at f (view c.in-Some.choice)))
     (sym c.as_str.ensures) ∙ (c.in_ok-holds_in_project.ensures ∙ ap Ok c.if-branch.true))
     ∙ ap
-    (lay_all (lay_within (64 - length c.args.chain.now) (seen_setting c.args.setting.now))
-    (seen_setting c.args.setting.now) c.args.chain.now c.args.file.now
+    (lay_all (lay_within (64 - length context.chain.now) (seen_setting context.setting))
+    (seen_setting context.setting) context.chain.now context.file.now
     (seen_laid c.loop-choice.layout))
     (sym
     (step.nodes_split (view c.in-Some.choice) c.split-children.result.1.items
@@ -116,22 +121,23 @@ lay_chosen-returns-then-branch-clause-laid t c =
 
 pub lay_chosen-loop-choice-preserved : goal.lay_chosen-loop-choice-preserved
 lay_chosen-loop-choice-preserved t c =
+    let context = c.args.context.now in
     let steps = c.in-Some.ensures.steps in
     let before = c.loop-choice.invariant in
     let shorter = ap length steps.0 in
     record {
       laid = step.chosen_goes
-          (lay_within (64 - length c.args.chain.now) (seen_setting c.args.setting.now))
-          (seen_setting c.args.setting.now) c.args.chain.now c.args.file.now
+          (lay_within (64 - length context.chain.now) (seen_setting context.setting))
+          (seen_setting context.setting) context.chain.now context.file.now
           (seen_laid c.loop-choice.layout) (seen_properties c.loop-choice.layout.properties)
           (into_iter_items c.loop-choice.choice-iterator) (into_iter_items c.next.new.self)
           c.in-Some.choice
-          (lay_chosen (lay_within (64 - length c.args.chain.now) (seen_setting c.args.setting.now))
-          (seen_setting c.args.setting.now) c.args.chain.now c.args.file.now
+          (lay_chosen (lay_within (64 - length context.chain.now) (seen_setting context.setting))
+          (seen_setting context.setting) context.chain.now context.file.now
           (seen_laid c.args.layout.now) (views c.args.choices.items)) steps.0 before.laid
           before.kept.kept
           (ap
-          (λ f. holds_in_project (seen_setting c.args.setting.now)
+          (λ f. holds_in_project (seen_setting context.setting)
           (seen_properties c.loop-choice.layout.properties) (at f (view c.in-Some.choice)))
           (sym c.as_str.ensures) ∙ (c.in_ok-holds_in_project.ensures ∙ ap Ok c.if-branch.false));
       kept = before.kept;
@@ -141,8 +147,9 @@ lay_chosen-loop-choice-preserved t c =
 
 pub lay_chosen-returns-clause-laid : goal.lay_chosen-returns-clause-laid
 lay_chosen-returns-clause-laid t c =
-    step.chosen_ends (lay_within (64 - length c.args.chain.now) (seen_setting c.args.setting.now))
-    (seen_setting c.args.setting.now) c.args.chain.now c.args.file.now
+    let context = c.args.context.now in
+    step.chosen_ends (lay_within (64 - length context.chain.now) (seen_setting context.setting))
+    (seen_setting context.setting) context.chain.now context.file.now
     (seen_laid c.loop-choice.layout) _ _
     (nil_from_length (into_iter_items c.loop-choice.choice-iterator)
     (sym c.loop-choice.invariant.counted ∙ c.in-None.ensures.steps.0))
@@ -201,17 +208,18 @@ lay_file-returns-clause-laid t c =
 pub lay_group-returns-in_err-holds_in_file-clause-laid :
     goal.lay_group-returns-in_err-holds_in_file-clause-laid
 lay_group-returns-in_err-holds_in_file-clause-laid t c =
+    let context = c.args.context.now in
     let p = err_from_is_err_and c.from_residual.result c.from_residual.ensures.1 in
     rw (p.1, p.2)
     (passed_on (λ (f : EvalFault). f.cause) c.in_err-holds_in_file.field-0.0 _ _
     (λ f is.
     step.group_fault
-    (lay_within (64 - length c.args.chain.now) (seen_setting c.args.setting.now))
-    (seen_setting c.args.setting.now) c.args.chain.now c.args.file.now
+    (lay_within (64 - length context.chain.now) (seen_setting context.setting))
+    (seen_setting context.setting) context.chain.now context.file.now
     (seen_laid c.args.layout.now) (view c.args.group)
     (seen_properties c.args.layout.now.properties) f c.requires.group c.requires.kept.kept
     (ap
-    (λ f. holds_in_file (seen_setting c.args.setting.now)
+    (λ f. holds_in_file (seen_setting context.setting)
     (seen_properties c.args.layout.now.properties) (at f (view c.args.group)))
     (sym c.as_str.ensures) ∙ is))
     c.in_err-holds_in_file.ensures)
@@ -229,18 +237,19 @@ lay_group-lay_all-requires t c = (
 
 pub lay_group-returns-then-branch-clause-laid : goal.lay_group-returns-then-branch-clause-laid
 lay_group-returns-then-branch-clause-laid t c =
+    let context = c.args.context.now in
     gives_same _ c.lay_all.result _ _
-    (step.group_held (lay_within (64 - length c.args.chain.now) (seen_setting c.args.setting.now))
-    (seen_setting c.args.setting.now) c.args.chain.now c.args.file.now
+    (step.group_held (lay_within (64 - length context.chain.now) (seen_setting context.setting))
+    (seen_setting context.setting) context.chain.now context.file.now
     (seen_laid c.args.layout.now) (view c.args.group)
     (seen_properties c.args.layout.now.properties) c.requires.group c.requires.kept.kept
     (ap
-    (λ f. holds_in_file (seen_setting c.args.setting.now)
+    (λ f. holds_in_file (seen_setting context.setting)
     (seen_properties c.args.layout.now.properties) (at f (view c.args.group)))
     (sym c.as_str.ensures) ∙ (c.in_ok-holds_in_file.ensures ∙ ap Ok c.if-branch.true))
     ∙ ap
-    (lay_all (lay_within (64 - length c.args.chain.now) (seen_setting c.args.setting.now))
-    (seen_setting c.args.setting.now) c.args.chain.now c.args.file.now
+    (lay_all (lay_within (64 - length context.chain.now) (seen_setting context.setting))
+    (seen_setting context.setting) context.chain.now context.file.now
     (seen_laid c.args.layout.now))
     (sym
     (step.nodes_split (view c.args.group) c.split-imports.result.1.items
@@ -249,12 +258,13 @@ lay_group-returns-then-branch-clause-laid t c =
 
 pub lay_group-returns-clause-laid : goal.lay_group-returns-clause-laid
 lay_group-returns-clause-laid t c =
-    step.group_not (lay_within (64 - length c.args.chain.now) (seen_setting c.args.setting.now))
-    (seen_setting c.args.setting.now) c.args.chain.now c.args.file.now
+    let context = c.args.context.now in
+    step.group_not (lay_within (64 - length context.chain.now) (seen_setting context.setting))
+    (seen_setting context.setting) context.chain.now context.file.now
     (seen_laid c.args.layout.now) (view c.args.group)
     (seen_properties c.args.layout.now.properties) c.requires.group c.requires.kept.kept
     (ap
-    (λ f. holds_in_file (seen_setting c.args.setting.now)
+    (λ f. holds_in_file (seen_setting context.setting)
     (seen_properties c.args.layout.now.properties) (at f (view c.args.group)))
     (sym c.as_str.ensures) ∙ (c.in_ok-holds_in_file.ensures ∙ ap Ok c.if-branch.false))
 
@@ -271,28 +281,30 @@ lay_one-lay_chosen-requires t c = (
 
 pub lay_one-returns-in-Imported-clause-laid : goal.lay_one-returns-in-Imported-clause-laid
 lay_one-returns-in-Imported-clause-laid t c =
+    let context = c.args.context.now in
     gives_same _ c.lay_import.result _ _
-    (step.laid_import (lay_within (64 - length c.args.chain.now) (seen_setting c.args.setting.now))
-    (seen_setting c.args.setting.now) c.args.chain.now c.args.file.now
+    (step.laid_import (lay_within (64 - length context.chain.now) (seen_setting context.setting))
+    (seen_setting context.setting) context.chain.now context.file.now
     (seen_laid c.args.layout.now) (view c.args.child)
     (ap part_of (sym c.name.ensures) ∙ sym c.of.ensures ∙ c.in-Imported.is)
     ∙ ap
     (λ f.
-    lay_import (lay_within (64 - length c.args.chain.now) (seen_setting c.args.setting.now))
-    (seen_setting c.args.setting.now) c.args.chain.now (seen_laid c.args.layout.now)
+    lay_import (lay_within (64 - length context.chain.now) (seen_setting context.setting))
+    (seen_setting context.setting) context.chain.now (seen_laid c.args.layout.now)
     (at f (view c.args.child))) (sym c.as_str.ensures))
     c.lay_import.ensures.laid
 
 pub lay_one-returns-in-Chosen-clause-laid : goal.lay_one-returns-in-Chosen-clause-laid
 lay_one-returns-in-Chosen-clause-laid t c =
+    let context = c.args.context.now in
     gives_same _ c.lay_chosen.result _ _
-    (step.laid_chosen (lay_within (64 - length c.args.chain.now) (seen_setting c.args.setting.now))
-    (seen_setting c.args.setting.now) c.args.chain.now c.args.file.now
+    (step.laid_chosen (lay_within (64 - length context.chain.now) (seen_setting context.setting))
+    (seen_setting context.setting) context.chain.now context.file.now
     (seen_laid c.args.layout.now) (view c.args.child)
     (ap part_of (sym c.name.ensures) ∙ sym c.of.ensures ∙ c.in-Chosen.is)
     ∙ ap
-    (lay_chosen (lay_within (64 - length c.args.chain.now) (seen_setting c.args.setting.now))
-    (seen_setting c.args.setting.now) c.args.chain.now c.args.file.now
+    (lay_chosen (lay_within (64 - length context.chain.now) (seen_setting context.setting))
+    (seen_setting context.setting) context.chain.now context.file.now
     (seen_laid c.args.layout.now))
     (sym
     (step.nodes_split (view c.args.child) c.split-choices.result.1.items
@@ -301,23 +313,25 @@ lay_one-returns-in-Chosen-clause-laid t c =
 
 pub lay_one-returns-in-PassedOver-clause-laid : goal.lay_one-returns-in-PassedOver-clause-laid
 lay_one-returns-in-PassedOver-clause-laid t c =
-    step.laid_over (lay_within (64 - length c.args.chain.now) (seen_setting c.args.setting.now))
-    (seen_setting c.args.setting.now) c.args.chain.now c.args.file.now
+    let context = c.args.context.now in
+    step.laid_over (lay_within (64 - length context.chain.now) (seen_setting context.setting))
+    (seen_setting context.setting) context.chain.now context.file.now
     (seen_laid c.args.layout.now) (view c.args.child)
     (ap part_of (sym c.name.ensures) ∙ sym c.of.ensures ∙ c.in-PassedOver.is)
 
 pub lay_one-returns-in-LaidOut-clause-laid : goal.lay_one-returns-in-LaidOut-clause-laid
 lay_one-returns-in-LaidOut-clause-laid t c =
+    let context = c.args.context.now in
     gives_same _ c.extend.result _ _
-    (step.laid_out (lay_within (64 - length c.args.chain.now) (seen_setting c.args.setting.now))
-    (seen_setting c.args.setting.now) c.args.chain.now c.args.file.now
+    (step.laid_out (lay_within (64 - length context.chain.now) (seen_setting context.setting))
+    (seen_setting context.setting) context.chain.now context.file.now
     (seen_laid c.args.layout.now) (view c.args.child)
     (ap part_of (sym c.name.ensures) ∙ sym c.of.ensures ∙ c.in-LaidOut.is))
     c.extend.ensures.laid
 
 pub lay_project-extend-requires : goal.lay_project-extend-requires
 lay_project-extend-requires t c =
-    c.in_ok-add_file.ensures.kept (seen_setting c.args.setting.now) c.requires
+    c.in_ok-add_file.ensures.kept (seen_setting c.args.context.now.setting) c.requires
 
 pub lay_project-lay_all-requires : goal.lay_project-lay_all-requires
 lay_project-lay_all-requires t c = (
@@ -332,9 +346,10 @@ lay_project-lay_all-requires t c = (
 
 pub lay_project-returns-clause-laid : goal.lay_project-returns-clause-laid
 lay_project-returns-clause-laid t c =
+    let context = c.args.context.now in
     gives_same _ c.lay_all.result _ _
-    (step.project_laid (lay_within (64 - length c.args.chain.now) (seen_setting c.args.setting.now))
-    (seen_setting c.args.setting.now) c.args.chain.now c.args.file.now
+    (step.project_laid (lay_within (64 - length context.chain.now) (seen_setting context.setting))
+    (seen_setting context.setting) context.chain.now context.file.now
     (seen_laid c.args.layout.now) (seen_laid c.add_file.new.self) (seen_laid c.extend.new.self)
     (view c.args.root) (view c.split-element.result.0) c.split-element.result.1.items
     c.in_ok-add_file.ensures.laid c.in_ok-extend.ensures.laid c.split-element.ensures.element
