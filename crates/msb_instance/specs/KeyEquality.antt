@@ -1,5 +1,20 @@
 -- Keys that are told equal are equal.
-use Rattle.std.proofs.Common.{◌≡◌, ◌↔◌, ◌&&◌, ◌∙◌, Bool, List, Ok, ap, false, refl, subst, sym, true, ℕ}
+use Rattle.std.proofs.Common.{
+  ◌≡◌,
+  ◌↔◌,
+  ◌&&◌,
+  ◌∙◌,
+  Bool,
+  List,
+  Ok,
+  ap,
+  false,
+  refl,
+  subst,
+  sym,
+  true,
+  ℕ,
+}
 use Rattle.std.specs.Bool.{Decides}
 use Rattle.std.specs.Cmp.Lexicographic.{pointwise_decides}
 use Rattle.std.specs.Str.{bytes_eq}
