@@ -1,7 +1,17 @@
 -- An evaluated project may be shared by threads. What holds elements is shown here, since they hold
 -- one another.
 use denote.Struct.Declared as Struct
-use denote.Param.Send.{IsSend, IsSync, sendable, recorded_send, recorded_sync, struct_send, struct_sync, view_send, view_sync}
+use denote.Param.Send.{
+  IsSend,
+  IsSync,
+  sendable,
+  recorded_send,
+  recorded_sync,
+  struct_send,
+  struct_sync,
+  view_send,
+  view_sync,
+}
 use Rattle.std.proofs.Crossing.{crosses as owned}
 use Rattle.std.proofs.alloc.Global.TheSendSync as heap
 use Rattle.std.proofs.collections.HashMap.TheSendSync as map
