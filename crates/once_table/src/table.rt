@@ -108,8 +108,10 @@ impl<
     }
 
     /// The value of a key; where there is none yet, this thread makes it for all. Where another
-    /// thread makes it just now, this call waits for that. What cannot be made is left to others
-    /// to make.
+    /// thread makes it just now, this call waits for that. Where the value cannot be made or cannot
+    /// be put, the key is given up, so that the next thread that asks makes it.
+    ///
+    /// `make` must not ask the table for the same key: it would wait for itself.
     ///
     /// The inner error is that of `make`, the outer one want of memory to find or to put the value.
     pub fn find_or_make<E: Drop, M: FnOnce() -> Result<V, E>>(
@@ -180,7 +182,7 @@ impl<
     }
 
     /// Puts the value of a key, which this thread has made. The error is want of memory: then the
-    /// value is given up.
+    /// key is given up.
     pub fn put(&mut self, key: &K, value: &V) -> Result<(), NoMemory>
         requires { F.fits self.old key.now value.now }
         ensures { self.new ≡ self.old }
