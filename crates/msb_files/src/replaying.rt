@@ -1,5 +1,4 @@
 ghost use Rattle.std.specs.Prelude.{◌≡◌, Some, OnOk, OnErr, IsSome, false, map};
-ghost use Rattle.std.specs.List.{list_all};
 ghost use Rattle.result_cache.specs.Journal.{end_of, has};
 ghost use Rattle.result_cache.specs.Replay.{effects_of, replay, replay_all, replays, replays_run};
 ghost use Rattle.msb_files.specs.Before.{before};
@@ -30,27 +29,6 @@ impl Journal {
         Ok(())
     }
 
-    /// Uses the records of runs, in order, as `replay` uses that of each. Want of memory leaves the
-    /// journal as it was. (MSBuild task.)
-    pub fn replay_all(
-        &mut self,
-        alloc: Global,
-        table: &Table,
-        runs: &[RunRef],
-    ) -> Result<(), NoMemory>
-        requires { IsSome (replay_all table.now.finished runs.now self.old) }
-        ensures ok { OnOk result (replay_all table.now.finished runs.now self.old ≡ Some self.new) }
-        ensures err { OnErr result (self.new ≡ self.old) }
-    {
-        if self.have_ended(runs) {
-            return Ok(());
-        }
-        let mut grown = self.copy()?;
-        take_all(&mut grown, table, runs)?;
-        *self = grown.settle(alloc)?;
-        Ok(())
-    }
-
     /// Uses the records of runs, in order and in place, as `replay` uses that of each; a journal
     /// that is copied later is settled first. Want of memory leaves a journal of which nothing is
     /// promised: some of the new entries may be there, and those of a run without its end. A caller
@@ -59,30 +37,16 @@ impl Journal {
         requires { IsSome (replay_all table.now.finished runs.now self.old) }
         ensures { OnOk result (replay_all table.now.finished runs.now self.old ≡ Some self.new) }
     {
-        take_all(self, table, runs)
-    }
-
-    // Whether each of the runs has ended.
-    fn have_ended(&self, runs: &[RunRef]) -> bool
-        ensures { result ≡ list_all (λ run. has (end_of run) self.now) runs.now }
-    {
-        runs.iter().all(|run| self.has_ended(run))
+        for run in runs {
+            if !self.has_ended(run) {
+                take_run(self, table, run)?;
+            }
+        }
+        Ok(())
     }
 }
 
 // Where there is no memory, these put in some of the entries.
-
-fn take_all(journal: &mut Journal, table: &Table, runs: &[RunRef]) -> Result<(), NoMemory>
-    requires { IsSome (replay_all table.now.finished runs.now journal.old) }
-    ensures { OnOk result (replay_all table.now.finished runs.now journal.old ≡ Some journal.new) }
-{
-    for run in runs {
-        if !journal.has_ended(run) {
-            take_run(journal, table, run)?;
-        }
-    }
-    Ok(())
-}
 
 #[cycle(replaying)]
 fn take_run(journal: &mut Journal, table: &Table, run: &RunRef) -> Result<(), NoMemory>

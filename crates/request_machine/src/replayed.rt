@@ -76,6 +76,22 @@ fn replay_others(
     }
 }
 
+/// A journal with these runs replayed, in order. (MSBuild task.)
+pub fn with_runs(
+    alloc: Global,
+    journal: &Journal,
+    table: &Table,
+    runs: &[RunRef],
+) -> Result<Journal, NoMemory>
+    requires { IsSome (replay_all table.now.finished runs.now journal.now) }
+    ensures { IfOk result
+        (λ after. replay_all table.now.finished runs.now journal.now ≡ Some after) }
+{
+    let mut after = journal.copy()?;
+    after.take_runs(table, runs)?;
+    after.settle(alloc)
+}
+
 // A journal with the runs of results replayed.
 fn with_results(
     alloc: Global,

@@ -6,7 +6,7 @@ use crate::after_run::{AfterRun, OrderStep};
 use crate::beginning::{Beginning, begin};
 use crate::context::{Project, RequestContext};
 use crate::former::{Former, replace_body};
-use crate::replayed::{Replayed, journal_after};
+use crate::replayed::{Replayed, journal_after, with_runs};
 use crate::run::RunStop;
 use crate::shared::SharedList;
 use crate::stage::{Stage, Visit};
@@ -149,9 +149,8 @@ impl<'a, T> Request<'a, T> {
         ensures stage { IfOk result (λ ended. ended.stage ≡ ended_stage end.now.stage) }
     {
         let runs = end.runs.to_list(self.alloc)?;
-        let mut journal = self.journal.copy()?;
         let left = runs_behind(runs.as_slice(), self.runs.len());
-        journal.replay_all(self.alloc, table, left)?;
+        let journal = with_runs(self.alloc, &self.journal, table, left)?;
         let stage = end.stage.copy_end(self.alloc)?;
         Ok(Request {
             alloc: self.alloc,
