@@ -6,7 +6,6 @@ use Rattle.std.proofs.Common.{
   [],
   Bool,
   List,
-  Ok,
   Some,
   cond,
   false,
@@ -14,17 +13,14 @@ use Rattle.std.proofs.Common.{
   inl,
   inr,
   refl,
-  subst,
   sym,
   true,
 }
 use Rattle.std.specs.Map.{lookup}
 use Rattle.indexmap.specs.IndexMap.{insert_entry}
-use Rattle.file_store.specs.declared.tree.File.{File}
 use Rattle.msb_values.specs.declared.key.InstanceKey.{InstanceKey}
 use Rattle.build_world.specs.declared.instance.Instance.{Instance}
-use Rattle.msb_instance.specs.Evaluated.{evaluated, seen_instance}
-use Rattle.msb_instance.specs.Kept.{AllEvaluated, Keeps}
+use Rattle.msb_instance.specs.Kept.{Keeps}
 
 module _ (eq : InstanceKey → InstanceKey → Bool)
     (same : (a b : InstanceKey) → eq a b ≡ true → a ≡ b)
@@ -60,29 +56,3 @@ module _ (eq : InstanceKey → InstanceKey → Bool)
       fs ≡ insert_entry eq es k i → k ≡ key → i ≡ instance → fs ≡ insert_entry eq es key instance
   put-is es fs k i is same-key same-instance =
       is ∙ (λ j. insert_entry eq es (same-key j) (same-instance j))
-
-  module _ (files : List File) where
-    -- an instance that is kept under a key is what the key's project evaluates to
-    pub evaluated-kept : (es : List (InstanceKey × Instance)) → AllEvaluated files es →
-        Keeps key instance es → evaluated files key ≡ Ok (seen_instance instance)
-    evaluated-kept [] are kept = absurd kept
-    evaluated-kept (e ∷ es) are (inl is) =
-        subst (λ p. evaluated files p.0 ≡ Ok (seen_instance p.1)) is are.0
-    evaluated-kept (e ∷ es) are (inr kept) = evaluated-kept es are.1 kept
-
-    -- all are evaluated still when one that is evaluated is put among them
-    pub evaluated-put : (es : List (InstanceKey × Instance)) → AllEvaluated files es →
-        evaluated files key ≡ Ok (seen_instance instance) →
-        AllEvaluated files (insert_entry eq es key instance)
-    evaluated-put [] are is = (is, tt)
-    evaluated-put (e ∷ es) are is = by (eq key e.0) refl (evaluated-put es are.1 is)
-      where
-        by : (b : Bool) → eq key e.0 ≡ b →
-            AllEvaluated files (insert_entry eq es key instance) →
-            AllEvaluated files
-            (if b then (e.0, instance) ∷ es else e ∷ insert_entry eq es key instance)
-        by true it rest = (
-          subst (λ k. evaluated files k ≡ Ok (seen_instance instance)) (same key e.0 it) is,
-          are.1,
-        )
-        by false it rest = (are.0, rest)

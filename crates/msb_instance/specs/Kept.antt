@@ -1,7 +1,10 @@
 -- The instances that a node keeps, with their keys, and those that nodes share.
+-- (MSBuild task; Build projects in parallel: a project is evaluated once for each set of global
+-- properties)
 use Rattle.std.specs.Prelude.{◌≡◌, ◌⊎◌, List, [], ◌∷◌, Ok, Option, IfSome}
 use Rattle.file_store.specs.declared.tree.File.{File}
 use Rattle.msb_values.specs.declared.key.InstanceKey.{InstanceKey}
+use Rattle.once_table.specs.Looked.{AllFit}
 use Rattle.build_world.specs.declared.instance.Instance.{Instance}
 use Rattle.msb_instance.specs.Evaluated.{evaluated, seen_instance}
 
@@ -9,13 +12,15 @@ use Rattle.msb_instance.specs.Evaluated.{evaluated, seen_instance}
 abbrev pub Kept : Type 0
 Kept = List (InstanceKey × Instance) × Option (List File)
 
--- each is what its key's project evaluates to by these files
-abbrev pub AllEvaluated : List File → List (InstanceKey × Instance) → Type 0
-AllEvaluated files [] = Unit {0}
-AllEvaluated files (kept ∷ more) =
-    (evaluated files kept.0 ≡ Ok (seen_instance kept.1)) × AllEvaluated files more
+-- the key's project evaluates to the instance by these files
+abbrev pub IsEvaluated : List File → InstanceKey → Instance → Type 0
+IsEvaluated files key instance = evaluated files key ≡ Ok (seen_instance instance)
 
--- so are those that are kept, and these are the files of those that are shared
+-- so does the project of each key
+abbrev pub AllEvaluated : List File → List (InstanceKey × Instance) → Type 0
+AllEvaluated files = AllFit (IsEvaluated files)
+
+-- those that are kept are evaluated by these files, which are the files of those that are shared
 abbrev pub AreEvaluated : List File → Kept → Type 0
 AreEvaluated files kept = AllEvaluated files kept.0 × IfSome kept.1 (λ shared. shared ≡ files)
 

@@ -70,11 +70,10 @@ type Files = List<File>;
 struct Evaluation;
 
 impl Fits<InstanceKey, InstanceRef, Files> for Evaluation {
-    ghost use Rattle.std.specs.Prelude.{◌≡◌, Ok};
-    ghost use Rattle.msb_instance.specs.Evaluated.{evaluated, seen_instance};
+    ghost use Rattle.msb_instance.specs.Kept.{IsEvaluated};
     ghost use Rattle.msb_instance.specs.KeyEquality.{evaluated-same};
 
-    ghost fits = { λ files key instance. evaluated files key ≡ Ok (seen_instance instance) };
+    ghost fits = { IsEvaluated };
 
     ghost equal_keys = { evaluated-same };
 }
@@ -144,7 +143,7 @@ impl Instances {
             trees,
         } = self;
         let mut shared = OnceTable::open(alloc, &tree.files)?;
-        put_all(&mut shared, &kept)?;
+        shared.put_all(&kept)?;
         Ok(Instances {
             kept,
             shared: Some(shared),
@@ -210,20 +209,6 @@ fn put(
     Ok(())
 }
 
-/// Puts instances among those that nodes share.
-fn put_all(
-    shared: &mut SharedInstances,
-    kept: &IndexMap<InstanceKey, InstanceRef>,
-) -> Result<(), NoMemory>
-    requires { AllEvaluated shared.old kept.now.entries }
-    ensures { shared.new ≡ shared.old }
-{
-    for (key, instance) in kept {
-        shared.put(key, instance)?;
-    }
-    Ok(())
-}
-
 /// The instance of a key, which is evaluated by the first node that needs it.
 fn evaluate_once(
     alloc: Global,
@@ -237,31 +222,7 @@ fn evaluate_once(
     ensures gives { GivesFault seen_instance result (evaluated tree.now.files key.now) }
     ensures kept { shared.new ≡ shared.old }
 {
-    match shared.find(key)? {
-        Some(instance) => Ok(instance),
-        None => evaluate_first(alloc, tree, key, trees, shared),
-    }
-}
-
-/// Evaluates an instance for all nodes.
-fn evaluate_first(
-    alloc: Global,
-    tree: &Tree,
-    key: &InstanceKey,
-    trees: &mut ElementTrees,
-    shared: &mut SharedInstances,
-) -> Result<InstanceRef, EvalFault>
-    requires file { IsSome (file_at key.now.path tree.now.files) }
-    requires files { shared.old ≡ tree.now.files }
-    ensures gives { GivesFault seen_instance result (evaluated tree.now.files key.now) }
-    ensures kept { shared.new ≡ shared.old }
-{
-    let instance = evaluate_shared(alloc, tree, key, trees);
-    match &instance {
-        Ok(made) => shared.put(key, made)?,
-        Err(_) => shared.give_up(key),
-    }
-    instance
+    shared.find_or_make(key, || evaluate_shared(alloc, tree, key, trees))?
 }
 
 /// Evaluates an instance, which its copies share.

@@ -1,7 +1,8 @@
 use Rattle.std.proofs.Common.{sym, subst}
-use Rattle.msb_instance.specs.Kept.{AllEvaluated, Keeps}
-use Rattle.msb_instance.specs.KeyEquality.{same_key, same_key-exact}
-use Rattle.msb_instance.proofs.Keeping.{evaluated-put, keeps-put, put-is}
+use Rattle.once_table.proofs.Placing.{put-fits}
+use Rattle.msb_instance.specs.Kept.{AllEvaluated, IsEvaluated, Keeps}
+use Rattle.msb_instance.specs.KeyEquality.{evaluated-same, same_key, same_key-exact}
+use Rattle.msb_instance.proofs.Keeping.{keeps-put, put-is}
 use Rattle.msb_instance.proofs.instances.put.Goals as goal
 
 pub returns-clause-keeps : goal.returns-clause-keeps
@@ -23,4 +24,4 @@ returns-clause-kept c files are evaluates =
     c.in_ok-copy.field-0 c.in_ok-copy-2.field-0 c.in_ok-insert.ensures.entries
     c.in_ok-copy.ensures c.in_ok-copy-2.ensures in
     subst (AllEvaluated files) (sym is)
-    (evaluated-put same_key same_key-exact key instance files es are evaluates)
+    (put-fits same_key (IsEvaluated files) (evaluated-same files) key instance es are evaluates)

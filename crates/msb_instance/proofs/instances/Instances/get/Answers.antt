@@ -1,9 +1,10 @@
 use Rattle.std.proofs.Common.{◌≡◌, ◌∙◌, Ok, ap, sym, subst}
 use Rattle.build_world.specs.declared.instance.Instance.{Instance}
 use Rattle.msb_instance.specs.Evaluated.{evaluated, seen_instance}
-use Rattle.msb_instance.specs.Kept.{AreEvaluated, Keeps}
-use Rattle.msb_instance.specs.KeyEquality.{same_key, same_key-exact}
-use Rattle.msb_instance.proofs.Keeping.{evaluated-kept, keeps-found}
+use Rattle.once_table.proofs.Placing.{found-fits}
+use Rattle.msb_instance.specs.Kept.{AreEvaluated, IsEvaluated, Keeps}
+use Rattle.msb_instance.specs.KeyEquality.{evaluated-same, same_key, same_key-exact}
+use Rattle.msb_instance.proofs.Keeping.{keeps-found}
 use Rattle.msb_instance.proofs.instances.Instances.get.Goals as goal
 
 pub returns-in-Some-clause-gives : goal.returns-in-Some-clause-gives
@@ -13,9 +14,9 @@ returns-in-Some-clause-gives c =
     let instance = c.in-Some.instance.now in
     let es = c.self.inside.kept.entries in
     let is : evaluated files key ≡ Ok (seen_instance instance) =
-    evaluated-kept same_key same_key-exact key instance files es
+    found-fits same_key (IsEvaluated files) (evaluated-same files) key instance es
     (subst (AreEvaluated files) (sym c.self.view_is) c.requires.kept).0
-    (keeps-found same_key same_key-exact key instance es (sym c.in-Some.ensures.value)) in
+    (sym c.in-Some.ensures.value) in
     is ∙ ap (λ (i : Instance). Ok (seen_instance i)) (sym c.in_ok-copy.ensures)
 
 pub returns-in-Some-clause-keeps : goal.returns-in-Some-clause-keeps
