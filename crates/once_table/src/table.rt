@@ -142,7 +142,7 @@ impl<
     /// The value of a key, or nothing: then this thread is the one that makes it, and has to put it
     /// or to give it up. Where another thread makes it just now, this call waits for that. The
     /// error is want of memory: then nothing changes.
-    pub fn find(&mut self, key: &K) -> Result<Option<V>, NoMemory>
+    fn find(&mut self, key: &K) -> Result<Option<V>, NoMemory>
         ensures fits { IfOk result
             (λ found. IfSome found (λ value. ∥ F.fits self.old key.now value ∥₁)) }
         ensures kept { self.new ≡ self.old }
@@ -183,7 +183,7 @@ impl<
 
     /// Puts the value of a key, which this thread has made. The error is want of memory: then the
     /// key is given up.
-    pub fn put(&mut self, key: &K, value: &V) -> Result<(), NoMemory>
+    fn put(&mut self, key: &K, value: &V) -> Result<(), NoMemory>
         requires { F.fits self.old key.now value.now }
         ensures { self.new ≡ self.old }
     {
@@ -196,7 +196,7 @@ impl<
     }
 
     /// Leaves it to others to make the value of a key.
-    pub fn give_up(&mut self, key: &K)
+    fn give_up(&mut self, key: &K)
         ensures { self.new ≡ self.old }
     {
         if let Some(mut values) = take(self.board.get(), &mut self.seat) {
