@@ -11,7 +11,6 @@ ghost use Rattle.std.specs.Prelude.{
   List,
   [],
   ◌∷◌,
-  Some,
   IfOk,
   IfSome,
   IfNone,
@@ -52,7 +51,7 @@ ghost use Rattle.msb_condition.specs.Machine.{
   unary_step,
   tree_step,
 };
-ghost use Rattle.msb_condition.specs.Places.{tokens_at, IsNext, IsCut};
+ghost use Rattle.msb_condition.specs.Places.{tokens_at, IsCut};
 ghost use Rattle.msb_condition.specs.Tokens.{is_and, is_or};
 ghost use Rattle.msb_condition.specs.Reading.{IsRefused};
 ghost use Rattle.msb_condition.specs.Trees.{Tree, either, both};
@@ -338,37 +337,14 @@ fn comparison(
     ensures within { IfOk result (λ found. found.1 ≤ length text.now) }
 {
     match token_at(text, at) {
-        Some(token) => comparison_at(alloc, text, left, at, token, room),
+        Some(token) => match token.kind {
+            Kind::Compare(comparison) => {
+                let (right, end) = operand(alloc, text, token.end, room)?;
+                Ok((Cond::Compare(comparison, left, right), end))
+            }
+            Kind::Equals | Kind::Bang => Err(syntax(token.start + 1)),
+            _ => Ok((Cond::Truth(left), at)),
+        },
         None => Ok((Cond::Truth(left), at)),
-    }
-}
-
-/// What an operand is where a token follows it behind `at`: the left side of a comparison, or a
-/// truth value.
-fn comparison_at(
-    alloc: Global,
-    text: &str,
-    left: Operand,
-    at: usize,
-    token: Token,
-    room: u64,
-) -> Result<(Cond, usize), CondFault>
-    requires next { IsNext text.now at (Some token) }
-    requires after { at ≤ token.start }
-    requires order { token.start < token.end }
-    requires within { token.end ≤ length text.now }
-    ensures leads { (frames : List Frame) → HasRoom frames room → wants_operand frames ≡ false
-        → Leads text.now result (run_at text.now at frames (operand (view.operand_of left)))
-        (λ cond tokens. step_on text.now (end_unary frames (tree_of cond)) tokens) }
-    ensures after { IfOk result (λ found. at ≤ found.1) }
-    ensures within { IfOk result (λ found. found.1 ≤ length text.now) }
-{
-    match token.kind {
-        Kind::Compare(comparison) => {
-            let (right, end) = operand(alloc, text, token.end, room)?;
-            Ok((Cond::Compare(comparison, left, right), end))
-        }
-        Kind::Equals | Kind::Bang => Err(syntax(token.start + 1)),
-        _ => Ok((Cond::Truth(left), at)),
     }
 }

@@ -248,51 +248,48 @@ fn function_at(
     ensures within { IfOk result (λ found. found.1 ≤ length text.now) }
 {
     match opening_at(text, token.end) {
-        Some((start, end)) => call(alloc, text, function, start, end, room),
+        Some(opening) => call(alloc, text, function, opening, room),
         None => plain(alloc, &text[token.start..token.end], token.end),
     }
 }
 
-/// Where the `(` behind `at` begins and ends, if one stands there.
-fn opening_at(text: &str, at: usize) -> Option<(usize, usize)>
+/// The `(` behind `at`, if one stands there.
+fn opening_at(text: &str, at: usize) -> Option<Token>
     requires { at ≤ length text.now }
     ensures none { IfNone result (starts_open (tokens_at at text.now) ≡ false) }
-    ensures some { IfSome result (λ found. IsOpenAt text.now at found.0 found.1) }
+    ensures some { IfSome result (λ opening. IsOpenAt text.now at opening.start opening.end) }
 {
     match token_at(text, at) {
-        Some(
-            Token {
-                kind: Kind::Open,
-                start,
-                end,
-            },
-        ) => Some((start, end)),
-        _ => None,
+        Some(token) => match token.kind {
+            Kind::Open => Some(token),
+            _ => None,
+        },
+        None => None,
     }
 }
 
-/// The call of a function whose `(` stands at `start`, with its operand at `at`.
+/// The call of a function, with its operand behind the `(`.
 #[cycle(operand)]
 fn call(
     alloc: Global,
     text: &str,
     function: Function,
-    start: usize,
-    at: usize,
+    opening: Token,
     room: u64,
 ) -> Result<(Operand, usize), CondFault>
-    requires order { start < at }
-    requires within { at ≤ length text.now }
+    requires order { opening.start < opening.end }
+    requires within { opening.end ≤ length text.now }
     ensures leads { (frames : List Frame) → HasRoom frames room
-        → Leads text.now result (step_at text.now (nested frames (call_of function) start) at)
+        → Leads text.now result
+        (step_at text.now (nested frames (call_of function) opening.start) opening.end)
         (λ left tokens. step_on text.now (end_operand frames (view.operand_of left)) tokens) }
-    ensures after { IfOk result (λ found. at ≤ found.1) }
+    ensures after { IfOk result (λ found. opening.end ≤ found.1) }
     ensures within { IfOk result (λ found. found.1 ≤ length text.now) }
 {
     if room == 0 {
-        return Err(syntax(start));
+        return Err(syntax(opening.start));
     }
-    let (inner, end) = operand(alloc, text, at, room - 1)?;
+    let (inner, end) = operand(alloc, text, opening.end, room - 1)?;
     let end = closing_end(text, end)?;
     Ok((Operand::Call(function, Box::new(alloc, inner)?), end))
 }
