@@ -6,7 +6,7 @@ use crate::held::Held;
 use crate::listed::Listed;
 use crate::listing::{look_below, look_in_threads};
 use crate::place::{Place, join};
-use crate::reading::{read_file, read_files, read_in_threads};
+use crate::reading::{Budget, read_file};
 use crate::removing::remove_file;
 use crate::writing::write_file;
 use file_store::{Entry, Store, StoreError};
@@ -21,8 +21,8 @@ use std::thread::Threads;
 ///
 /// Its files are the regular files in it and below, without links, each by its path from the
 /// folder, with `/` between names. A stamp is the time of the last change, in nanoseconds since
-/// 1970, and 0 for an earlier time. A listing within the limits of a load reads the files, so that
-/// what it lists can be read later, whatever has vanished since.
+/// 1970, and 0 for an earlier time. A listing reads the files as well, as long as they are within
+/// the limits of a load, so that what it lists can be read later, whatever has vanished since.
 #[derive(Drop)]
 pub struct DirStore<'a, R: Files> {
     rt: &'a R,
@@ -63,9 +63,9 @@ impl<'a, R: Files> DirStore<'a, R> {
     // Lists the folder in this thread.
     fn list_alone(&self, alloc: Global) -> io::Result<Listed> {
         let place = self.place(alloc);
-        let look = |paths: &[String]| look_below(&place, paths, usize::MAX);
-        let read = |entries: &[Entry]| read_files(&place, entries);
-        Listed::of(&place, &look, &read)
+        let budget = Budget::new();
+        let look = |paths: &[String]| look_below(&place, &budget, paths, usize::MAX);
+        Listed::of(&place, &look)
     }
 
     // The first `most` bytes of a file: of those that are held, which are held no more, or else of
@@ -148,9 +148,9 @@ impl<'a, R: Files + Threads + Sync> DirStore<'a, R> {
         R::Dir: Send,
     {
         let place = self.place(alloc);
-        let look = |paths: &[String]| look_in_threads(&place, paths, threads);
-        let read = |entries: &[Entry]| read_in_threads(&place, entries, threads);
-        Listed::of(&place, &look, &read)
+        let budget = Budget::new();
+        let look = |paths: &[String]| look_in_threads(&place, &budget, paths, threads);
+        Listed::of(&place, &look)
     }
 }
 

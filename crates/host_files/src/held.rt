@@ -1,5 +1,5 @@
 //! The bytes of files that were read with their listing, until each is read for itself.
-use crate::reading::{ReadFile, Reading};
+use crate::reading::ReadFile;
 use std::alloc::Global;
 
 /// The bytes of files by their paths. They are taken in the order of the listing without a search.
@@ -22,16 +22,13 @@ impl Held {
         Held { files }
     }
 
-    /// Takes the bytes of a file that could be read. They are held no more.
+    /// Takes the bytes of a file, if they are held. They are held no more.
     pub(crate) fn take(&mut self, path: &str) -> Option<Vec<u8>> {
-        let ReadFile { path: _, reading } = match self.files.last() {
+        let ReadFile { path: _, bytes } = match self.files.last() {
             Some(next) if next.path.as_str() == path => self.files.pop()?,
             _ => self.remove(path)?,
         };
-        match reading {
-            Reading::Read(bytes) => Some(bytes),
-            Reading::Gone | Reading::Failed => None,
-        }
+        Some(bytes)
     }
 
     fn remove(&mut self, path: &str) -> Option<ReadFile> {

@@ -1,18 +1,17 @@
 //! What a listing found: its entries, and the bytes of their files.
-ghost use Rattle.std.specs.Prelude.{◌≡◌, true, IfOk};
+ghost use Rattle.std.specs.Prelude.{◌≡◌, true};
 ghost use Rattle.file_store.specs.Entries.{are_listed_in_order};
 
 use crate::held::Held;
-use crate::listing::{Found, in_order, list_folder};
+use crate::listing::{Found, FoundFile, find_in_order, in_order};
 use crate::place::Place;
-use crate::reading::{ReadFile, Reading};
-use file_store::{Entry, check_limits};
+use file_store::Entry;
 use msb_values::List;
 use std::alloc::{AllocError, Global};
 use std::io;
 use std::rt::Files;
 
-/// The entries of a listing, and the bytes of their files that can be read.
+/// The entries of a listing, and the bytes of their files that were read.
 #[derive(Drop)]
 pub(crate) struct Listed {
     pub(crate) entries: List<Entry>,
@@ -21,52 +20,30 @@ pub(crate) struct Listed {
 }
 
 impl Listed {
-    /// Lists a folder, and reads the files where they are within the limits of a load. `look` looks
-    /// at some paths, and may leave some of what is below; `read` reads all files.
-    pub(crate) fn of<R, L, F>(place: &Place<'_, R>, look: &L, read: &F) -> io::Result<Listed>
+    /// Lists a folder. `look` looks at some paths, and may leave some of what is below; it reads the
+    /// files that it finds.
+    pub(crate) fn of<R, F>(place: &Place<'_, R>, look: &F) -> io::Result<Listed>
     where
         R: Files,
-        L: Fn(&[String]) -> io::Result<Found>,
-        F: Fn(&[Entry]) -> io::Result<Vec<ReadFile>>,
-        requires look { L.IsAlwaysCallable look.now }
-        requires read { F.IsAlwaysCallable read.now }
+        F: Fn(&[String]) -> io::Result<Found>,
+        requires { F.IsAlwaysCallable look.now }
     {
-        let entries = list_folder(place, look)?;
-        if check_limits(place.alloc, entries.as_slice()).is_err() {
-            let held = Held::new(place.alloc);
-            return Ok(Listed { entries, held });
-        }
-        let files = read(entries.as_slice())?;
-        let (entries, files) = still_there(place.alloc, entries, files)?;
-        let held = Held::of(files);
+        let files = find_in_order(place, look)?;
+        let (entries, held) = split(place.alloc, files)?;
+        let entries = in_order(place.alloc, entries)?;
         Ok(Listed { entries, held })
     }
 }
 
-// A file that has vanished is listed no more. One that can't be read stays listed, so that its path
-// is told when it is read for itself.
-fn still_there(
-    alloc: Global,
-    entries: List<Entry>,
-    files: Vec<ReadFile>,
-) -> Result<(List<Entry>, Vec<ReadFile>), AllocError>
-    requires { are_listed_in_order entries ≡ true }
-    ensures { IfOk result (λ there. are_listed_in_order there.0 ≡ true) }
-{
-    if !files.iter().any(|file| is_gone(file)) {
-        return Ok((entries, files));
-    }
-    let mut listed = Vec::with_capacity(alloc, entries.len())?;
-    let mut read = Vec::with_capacity(alloc, files.len())?;
-    for (entry, file) in entries.into_vec().into_iter().zip(files) {
-        if !is_gone(&file) {
-            listed.push(entry)?;
-            read.push(file)?;
+// The entries of files, and the bytes of those that were read.
+fn split(alloc: Global, files: Vec<FoundFile>) -> Result<(Vec<Entry>, Held), AllocError> {
+    let mut entries = Vec::with_capacity(alloc, files.len())?;
+    let mut all_read = Vec::with_capacity(alloc, files.len())?;
+    for FoundFile { entry, read } in files {
+        entries.push(entry)?;
+        if let Some(file) = read {
+            all_read.push(file)?;
         }
     }
-    Ok((in_order(alloc, listed)?, read))
-}
-
-fn is_gone(file: &ReadFile) -> bool {
-    matches!(file.reading, Reading::Gone)
+    Ok((entries, Held::of(all_read)))
 }

@@ -20,6 +20,7 @@ ghost use Rattle.file_store.specs.Entries.{are_listed_in_order};
 ghost use Rattle.file_store.specs.Paths.{is_before};
 
 use crate::place::{Place, is_gone, join};
+use crate::reading::{Budget, ReadFile, read_file};
 use crate::sharing::in_stretches;
 use crate::writing::NEW;
 use file_store::Entry;
@@ -36,16 +37,23 @@ use std::{fs, io, mem, str};
 const NAMES: usize = 16 * 1024;
 
 /// How many paths for each thread are enough to be shared out.
-const ENOUGH: usize = 32;
+const ENOUGH: usize = 8;
 
 /// How many paths a thread looks at, of those that it took and below, before it leaves the rest, so
 /// that others can share it.
 const MOST: usize = 512;
 
+/// A file that was found, with its bytes where they were read.
+#[derive(Drop)]
+pub(crate) struct FoundFile {
+    pub(crate) entry: Entry,
+    pub(crate) read: Option<ReadFile>,
+}
+
 /// What was found in folders: files, and paths that were not looked at yet.
 #[derive(Drop)]
 pub(crate) struct Found {
-    files: Vec<Entry>,
+    files: Vec<FoundFile>,
     // The next one comes last.
     left: Vec<String>,
 }
@@ -68,22 +76,21 @@ struct Walk {
 /// All regular files in a folder and below, in byte order of their paths, without following links.
 /// A name that vanishes meanwhile is not there. `look` looks at some paths, and may leave some of
 /// what is below.
-pub(crate) fn list_folder<R: Files, F: Fn(&[String]) -> io::Result<Found>>(
+pub(crate) fn find_in_order<R: Files, F: Fn(&[String]) -> io::Result<Found>>(
     place: &Place<'_, R>,
     look: &F,
-) -> io::Result<List<Entry>>
+) -> io::Result<Vec<FoundFile>>
     requires { F.IsAlwaysCallable look.now }
-    ensures { IfOk result (λ l. are_listed_in_order l ≡ true) }
 {
     let mut files = find_files(place, look)?;
-    files.sort_by(|a: &Entry, b: &Entry| a.path.cmp(&b.path))?;
-    Ok(in_order(place.alloc, files)?)
+    files.sort_by(|a: &FoundFile, b: &FoundFile| a.entry.path.cmp(&b.entry.path))?;
+    Ok(files)
 }
 
 fn find_files<R: Files, F: Fn(&[String]) -> io::Result<Found>>(
     place: &Place<'_, R>,
     look: &F,
-) -> io::Result<Vec<Entry>>
+) -> io::Result<Vec<FoundFile>>
     requires { F.IsAlwaysCallable look.now }
 {
     let mut walk = Walk::new(place.alloc);
@@ -106,6 +113,7 @@ fn find_files<R: Files, F: Fn(&[String]) -> io::Result<Found>>(
 /// told, where there are several, depends on the folder and the number of threads alone.
 pub(crate) fn look_in_threads<R: Files + Threads + Sync>(
     place: &Place<'_, R>,
+    budget: &Budget,
     paths: &[String],
     threads: usize,
 ) -> io::Result<Found>
@@ -114,9 +122,9 @@ where
     R::Dir: Send,
 {
     if paths.len() < threads.saturating_mul(ENOUGH) {
-        return look_at_each(place, paths);
+        return look_at_each(place, budget, paths);
     }
-    let look = |some: &[String]| look_below(place, some, MOST);
+    let look = |some: &[String]| look_below(place, budget, some, MOST);
     let mut all = Found {
         files: Vec::new(place.alloc),
         left: Vec::new(place.alloc),
@@ -128,10 +136,14 @@ where
 }
 
 // Looks at these paths, and leaves what is below.
-fn look_at_each<R: Files>(place: &Place<'_, R>, paths: &[String]) -> io::Result<Found> {
+fn look_at_each<R: Files>(
+    place: &Place<'_, R>,
+    budget: &Budget,
+    paths: &[String],
+) -> io::Result<Found> {
     let mut walk = Walk::new(place.alloc);
     for path in paths {
-        walk.look_at(place, String::from_str(place.alloc, path.as_str())?)?;
+        walk.look_at(place, budget, String::from_str(place.alloc, path.as_str())?)?;
     }
     Ok(walk.into_found())
 }
@@ -140,6 +152,7 @@ fn look_at_each<R: Files>(place: &Place<'_, R>, paths: &[String]) -> io::Result<
 /// before it looks at the name behind it, so that it finds files almost in the order of a listing.
 pub(crate) fn look_below<R: Files>(
     place: &Place<'_, R>,
+    budget: &Budget,
     paths: &[String],
     most: usize,
 ) -> io::Result<Found> {
@@ -150,7 +163,7 @@ pub(crate) fn look_below<R: Files>(
         let Some(path) = walk.found.left.pop() else {
             break;
         };
-        walk.look_at(place, path)?;
+        walk.look_at(place, budget, path)?;
     }
     Ok(walk.into_found())
 }
@@ -178,20 +191,51 @@ impl Walk {
 
     // A regular file is found, the names in a folder are left to be looked at, and anything else is
     // passed over.
-    fn look_at<R: Files>(&mut self, place: &Place<'_, R>, path: String) -> io::Result<()> {
+    fn look_at<R: Files>(
+        &mut self,
+        place: &Place<'_, R>,
+        budget: &Budget,
+        path: String,
+    ) -> io::Result<()> {
         place.put_path(&mut self.whole, path.as_str())?;
         let data = match fs::symlink_metadata(place.rt, self.whole.as_str()) {
             Err(error) if is_gone(&error) => return Ok(()),
             data => data?,
         };
         if data.is_file() {
-            self.found.files.push(entry_of(path, &data))?;
+            self.add_file(place, budget, path, &data)?;
         } else if data.is_dir() {
             match self.add_names(place, path.as_str()) {
                 Err(error) if is_gone(&error) => {}
                 added => added?,
             }
         }
+        Ok(())
+    }
+
+    // Adds a file, whose path for the system is `whole`, with its bytes as far as they may be read
+    // ahead. One that has vanished is not there. One that can't be read is, so that its path is told
+    // when it is read for itself.
+    fn add_file<R: Files>(
+        &mut self,
+        place: &Place<'_, R>,
+        budget: &Budget,
+        path: String,
+        data: &Metadata,
+    ) -> io::Result<()> {
+        let mut read = None;
+        if budget.allows(data.len()) {
+            match read_file(place, self.whole.as_str(), data.len() as usize, data.len()) {
+                Ok(bytes) => {
+                    let path = String::from_str(place.alloc, path.as_str())?;
+                    read = Some(ReadFile { path, bytes });
+                }
+                Err(error) if is_gone(&error) => return Ok(()),
+                Err(_) => {}
+            }
+        }
+        let entry = entry_of(path, data);
+        self.found.files.push(FoundFile { entry, read })?;
         Ok(())
     }
 

@@ -1,66 +1,48 @@
 //! The bytes of the files of a real folder. No contract says what a folder holds, so all here is
 //! trusted.
-use crate::place::{Place, is_gone};
-use crate::sharing::in_stretches;
-use file_store::Entry;
+use crate::place::Place;
 use std::io::Read;
 use std::rt::Files;
-use std::thread::Threads;
+use std::sync::atomic::{AtomicUsize, Ordering};
 use std::{fs, io};
 
-/// What came of the reading of a listed file.
-#[derive(Drop)]
-pub(crate) enum Reading {
-    Read(Vec<u8>),
-    /// No file is there.
-    Gone,
-    /// A file is there, and can't be read.
-    Failed,
-}
+/// So many files are read with a listing: no load takes more.
+const MOST_FILES: usize = 20_000;
 
-/// The path of a listed file, and what came of its reading.
+/// So many bytes are read with a listing, 256 MiB: no load takes more.
+const MOST_BYTES: usize = 268_435_456;
+
+/// A file that was read with a listing: its path, and its bytes.
 #[derive(Drop)]
 pub(crate) struct ReadFile {
     pub(crate) path: String,
-    pub(crate) reading: Reading,
+    pub(crate) bytes: Vec<u8>,
 }
 
-/// Reads these files in so many threads.
-pub(crate) fn read_in_threads<R: Files + Threads + Sync>(
-    place: &Place<'_, R>,
-    entries: &[Entry],
-    threads: usize,
-) -> io::Result<Vec<ReadFile>>
-where
-    R::File: Send,
-    R::Dir: Send,
-{
-    let read = |some: &[Entry]| read_files(place, some);
-    let mut all = Vec::with_capacity(place.alloc, entries.len())?;
-    for (_, files) in in_stretches(place.rt, place.alloc, entries, threads, &read)? {
-        all.append(&mut files?)?;
-    }
-    Ok(all)
+/// How much is read with a listing, by all threads together.
+#[derive(Drop)]
+pub(crate) struct Budget {
+    files: AtomicUsize,
+    bytes: AtomicUsize,
 }
 
-/// Reads each of these files, as much as was listed of it.
-pub(crate) fn read_files<R: Files>(
-    place: &Place<'_, R>,
-    entries: &[Entry],
-) -> io::Result<Vec<ReadFile>> {
-    let mut files = Vec::with_capacity(place.alloc, entries.len())?;
-    let mut whole = String::new(place.alloc);
-    for entry in entries {
-        place.put_path(&mut whole, entry.path.as_str())?;
-        let reading = match read_file(place, whole.as_str(), entry.size as usize, entry.size) {
-            Ok(bytes) => Reading::Read(bytes),
-            Err(error) if is_gone(&error) => Reading::Gone,
-            Err(_) => Reading::Failed,
-        };
-        let path = String::from_str(place.alloc, entry.path.as_str())?;
-        files.push(ReadFile { path, reading })?;
+impl Budget {
+    pub(crate) fn new() -> Budget {
+        Budget {
+            files: AtomicUsize::new(0),
+            bytes: AtomicUsize::new(0),
+        }
     }
-    Ok(files)
+
+    /// Whether a file of this size may be read as well, which counts it.
+    pub(crate) fn allows(&self, size: u64) -> bool {
+        let size = size as usize;
+        if size > MOST_BYTES || self.files.fetch_add(1, Ordering::SeqCst) >= MOST_FILES {
+            return false;
+        }
+        let before = self.bytes.fetch_add(size, Ordering::SeqCst);
+        before <= MOST_BYTES - size
+    }
 }
 
 /// The first `most` bytes of the file at a path. One read gives as many as are expected, where the
