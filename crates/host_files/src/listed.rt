@@ -20,8 +20,8 @@ pub(crate) struct Listed {
 }
 
 impl Listed {
-    /// Lists a folder. `look` looks at some paths, and may leave some of what is below; it reads the
-    /// files that it finds.
+    /// Lists a folder. `look` looks at some paths, and may leave some of what is below. It reads
+    /// the files that it finds.
     pub(crate) fn of<R, F>(place: &Place<'_, R>, look: &F) -> io::Result<Listed>
     where
         R: Files,

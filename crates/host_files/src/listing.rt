@@ -213,9 +213,9 @@ impl Walk {
         Ok(())
     }
 
-    // Adds a file, whose path for the system is `whole`, with its bytes as far as they may be read
-    // ahead. One that has vanished is not there. One that can't be read is, so that its path is told
-    // when it is read for itself.
+    // Adds a file, whose path for the system is `whole`, with its bytes where they may be read with
+    // the listing. One that has vanished is not there. One that can't be read is, so that its path
+    // is told when it is read for itself.
     fn add_file<R: Files>(
         &mut self,
         place: &Place<'_, R>,

@@ -37,9 +37,9 @@ impl<'a, T: CountedTools + Drop> Drop for NodeContext<'a, T> {
 }
 
 impl<'a, T: CountedTools> NodeContext<'a, T> {
-    /// The tools, which whoever has lent them gets back. This takes no memory. The instances are not
-    /// given back piece by piece, which would take a good part of a second build: the process keeps
-    /// them.
+    /// The tools, which whoever has lent them gets back. This takes no memory. The instances are
+    /// not given back piece by piece, which would take a good part of a second build: the process
+    /// keeps them.
     pub fn into_tools(self) -> T
         ensures { result ≡ self.entry.tools }
     {
