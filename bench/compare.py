@@ -3,12 +3,14 @@
 
 usage: bench/compare.py [PROGRAM] [--sizes 250,1000,4000] [--shapes flat,chains,layers]
                         [--nodes 1,4] [--beside ninja,make,xbuild] [--rounds 3]
-                        [--folder FOLDER]
+                        [--folder FOLDER] [--plain]
 
 PROGRAM is the built program, crates/msb/out/msb where it is not given. The sets are those of
 bench/sets.py, each written once for each program in a new folder of FOLDER, which is /dev/shm where
 it is there and none is named. Ninja and make have four jobs, msb builds on each of the numbers of
-nodes, and of the programs beside it those that are not installed are left out.
+nodes, and of the programs beside it those that are not installed are left out. msb is started with
+the settings of the allocator with which the launcher starts it, and with `--plain` without them;
+the others never have them.
 
 In each round each program in turn builds twice: `clean`, from which no output is there, and
 `second`, which finds all up to date. Whether each output holds what it should is looked at after
@@ -40,6 +42,11 @@ from typing import NamedTuple
 import sets
 
 TOP = Path(__file__).resolve().parent.parent
+# At the end, since this folder has modules of the same names.
+sys.path.append(str(TOP / "tools" / "launcher"))
+
+import allocator  # noqa: E402
+
 BUILDS = ("clean", "second")
 JOBS = "-j4"
 SLOW_SECONDS = 5
@@ -47,13 +54,16 @@ IN_MEMORY = Path("/dev/shm")
 
 # Runs a command and prints the seconds by the clock and of processors, the peak in KiB, and the
 # status. The system counts the memory of the process that starts a command as the command's, so
-# this one imports next to nothing.
-RUNNER = """
+# this one imports next to nothing, and gives settings of the allocator to the command alone.
+RUNNER = f"""
 import posix, sys, time
+settings, *words = sys.argv[1:]
+if settings:
+    posix.environ[b"{allocator.VARIABLE}"] = settings.encode()
 null = posix.open("/dev/null", posix.O_RDWR)
 actions = [(posix.POSIX_SPAWN_DUP2, null, number) for number in (0, 1)]
 began = time.monotonic()
-run = posix.posix_spawnp(sys.argv[1], sys.argv[1:], posix.environ, file_actions=actions)
+run = posix.posix_spawnp(words[0], words, posix.environ, file_actions=actions)
 _, status, used = posix.wait4(run, 0)
 clock = time.monotonic() - began
 print(clock, used.ru_utime + used.ru_stime, used.ru_maxrss, posix.waitstatus_to_exitcode(status))
@@ -68,11 +78,13 @@ WIDTHS = {"set": 6, "projects": 8, "build": 6, "by": 13, "clock s": 8, "processo
 
 
 class Program(NamedTuple):
-    """A program that builds: its name in the table, the form of its sets, and its words."""
+    """A program that builds: its name in the table, the form of its sets, its words, and the
+    settings of its allocator."""
 
     name: str
     form: str
     words: list[str]
+    settings: str = ""
 
 
 class Use(NamedTuple):
@@ -97,22 +109,35 @@ BESIDE = (Program(f"ninja {JOBS}", "ninja", ["ninja", JOBS]),
           Program("xbuild", "xbuild", ["xbuild", "/nologo", "/verbosity:quiet", sets.ROOT]))
 
 
-def programs(msb: str, nodes: list[int], beside: list[str]) -> list[Program]:
-    """msb on each of these numbers of nodes, and the programs of these names that are there."""
+def environment(is_plain: bool) -> dict[str, str]:
+    """The environment of msb: as the launcher starts it, or as it is here."""
+    return dict(os.environ) if is_plain else allocator.environment()
+
+
+def started(is_plain: bool) -> str:
+    """How msb is started, in words."""
+    return f"msb {'without the' if is_plain else 'with the'} settings of the launcher"
+
+
+def programs(words: argparse.Namespace) -> list[Program]:
+    """msb on each of the numbers of nodes, and the programs beside it that are there."""
+    settings = environment(words.plain).get(allocator.VARIABLE, "")
     found = [Program(f"msb, {number} node{'s' if number > 1 else ''}", "msb",
-                     [msb, "build", sets.ROOT, "--nodes", str(number)]) for number in nodes]
+                     [words.program, "build", sets.ROOT, "--nodes", str(number)], settings)
+             for number in words.nodes]
     return found + [program for program in BESIDE
-                    if program.form in beside and shutil.which(program.words[0])]
+                    if program.form in words.beside and shutil.which(program.words[0])]
 
 
 # ---- Builds -----------------------------------------------------------------------------------
 
 
-def timed(words: list[str], folder: Path) -> Use:
-    """Runs a command to its end. No earlier write is still on its way."""
+def timed(words: list[str], folder: Path, settings: str = "") -> Use:
+    """Runs a command to its end, with these settings of its allocator. No earlier write is still
+    on its way."""
     os.sync()
-    run = subprocess.run([sys.executable, "-ISc", RUNNER, *words], cwd=folder, check=True,
-                         stdout=subprocess.PIPE, text=True)
+    run = subprocess.run([sys.executable, "-ISc", RUNNER, settings, *words], cwd=folder,
+                         check=True, stdout=subprocess.PIPE, text=True)
     clock, processor, peak, status = map(float, run.stdout.split())
     if status:
         sys.exit(f"compare: {' '.join(words)}: status {status:.0f}")
@@ -141,10 +166,10 @@ def stamps(folder: Path, size: int) -> list[int]:
 def build_twice(program: Program, folder: Path, size: int) -> tuple[Use, Use]:
     """What a clean build takes, and a second one."""
     remove_outputs(folder, size)
-    clean = timed(program.words, folder)
+    clean = timed(program.words, folder, program.settings)
     check_outputs(program, folder, size)
     before = stamps(folder, size)
-    second = timed(program.words, folder)
+    second = timed(program.words, folder, program.settings)
     if stamps(folder, size) != before:
         sys.exit(f"compare: {program.name} has written an output again in its second build")
     return clean, second
@@ -249,6 +274,7 @@ def read_words() -> argparse.Namespace:
     parser.add_argument("--rounds", type=int, default=3)
     parser.add_argument("--folder", type=Path,
                         default=IN_MEMORY if os.access(IN_MEMORY, os.W_OK) else None)
+    parser.add_argument("--plain", action="store_true")
     words = parser.parse_args()
     words.program = os.path.abspath(words.program)
     if not os.access(words.program, os.X_OK) or words.rounds < 1:
@@ -260,8 +286,9 @@ def main() -> None:
     words = read_words()
     load = os.getloadavg()[0]
     rounds = f"least of {words.rounds} rounds"
-    print(f"{os.cpu_count()} processors, load {load:.1f}; {rounds}\n", flush=True)
-    compare(programs(words.program, words.nodes, words.beside), words)
+    print(f"{os.cpu_count()} processors, load {load:.1f}; {rounds}; {started(words.plain)}\n",
+          flush=True)
+    compare(programs(words), words)
 
 
 if __name__ == "__main__":

@@ -2,11 +2,13 @@
 """Times second builds on one node, on several, and as many builds on one node side by side.
 
 usage: bench/scaling.py [PROGRAM] [--shapes flat,chains,layers] [--size 4000] [--nodes 4]
-                        [--rounds 5] [--folder FOLDER]
+                        [--rounds 5] [--folder FOLDER] [--plain]
 
 PROGRAM is the built program, crates/msb/out/msb where it is not given. The sets are those of
 bench/sets.py, each written to as many folders as there are nodes, below a new folder of FOLDER,
 which is /dev/shm where it is there and none is named, and built once before any build is timed.
+PROGRAM is started with the settings of the allocator with which the launcher starts it, and with
+`--plain` without them.
 
 A row has the least and the median of the rounds by the clock, and the least seconds of processors
 of one build. The last two columns are ratios of the least ones to the build on one node that is
@@ -54,17 +56,18 @@ def ways(nodes: int) -> list[Way]:
             Way(f"{nodes} side by side", 1, nodes)]
 
 
-def timed(program: str, way: Way, folders: list[Path]) -> Use:
+def timed(words: argparse.Namespace, way: Way, folders: list[Path]) -> Use:
     """Runs the builds of a way to their end, each in a folder of its own."""
-    words = [program, "build", sets.ROOT, "--nodes", str(way.nodes)]
+    build = [words.program, "build", sets.ROOT, "--nodes", str(way.nodes)]
+    environment = compare.environment(words.plain)
     began = time.monotonic()
-    runs = [subprocess.Popen(words, cwd=folder, stdout=subprocess.DEVNULL)
+    runs = [subprocess.Popen(build, cwd=folder, env=environment, stdout=subprocess.DEVNULL)
             for folder in folders[:way.builds]]
     processor = 0.0
     for run in runs:
         _, status, used = os.wait4(run.pid, 0)
         if status:
-            sys.exit(f"scaling: {' '.join(words)}: status {os.waitstatus_to_exitcode(status)}")
+            sys.exit(f"scaling: {' '.join(build)}: status {os.waitstatus_to_exitcode(status)}")
         processor += used.ru_utime + used.ru_stime
     return Use(time.monotonic() - began, processor / way.builds)
 
@@ -75,10 +78,10 @@ def measure(words: argparse.Namespace, shape: str, top: Path) -> dict[Way, list[
     found: dict[Way, list[Use]] = {way: [] for way in ways(words.nodes)}
     for folder in folders:
         sets.write(folder, sets.files("msb", shape, words.size))
-        timed(words.program, ways(words.nodes)[0], [folder])
+        timed(words, ways(words.nodes)[0], [folder])
     for _ in range(words.rounds):
         for way, uses in found.items():
-            uses.append(timed(words.program, way, folders))
+            uses.append(timed(words, way, folders))
     return found
 
 
@@ -105,6 +108,7 @@ def read_words() -> argparse.Namespace:
     parser.add_argument("--rounds", type=int, default=5)
     in_memory = compare.IN_MEMORY if os.access(compare.IN_MEMORY, os.W_OK) else None
     parser.add_argument("--folder", type=Path, default=in_memory)
+    parser.add_argument("--plain", action="store_true")
     words = parser.parse_args()
     words.program = os.path.abspath(words.program)
     if not os.access(words.program, os.X_OK) or min(words.size, words.nodes, words.rounds) < 1:
@@ -115,7 +119,7 @@ def read_words() -> argparse.Namespace:
 def main() -> None:
     words = read_words()
     print(f"{os.cpu_count()} processors, load {os.getloadavg()[0]:.1f}; {words.size:,} projects, "
-          f"second builds, {words.rounds} rounds\n", flush=True)
+          f"second builds, {words.rounds} rounds; {compare.started(words.plain)}\n", flush=True)
     print(f"{line(COLUMNS)}\n|{'|'.join('-' * (width + 2) for width in WIDTHS)}|", flush=True)
     for shape in words.shapes:
         with tempfile.TemporaryDirectory(prefix="msb-scaling-", dir=words.folder) as top:

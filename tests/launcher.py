@@ -12,6 +12,7 @@ import os
 import pty
 import random
 import re
+import resource
 import select
 import shutil
 import signal
@@ -414,6 +415,63 @@ def try_end_by_signal(tests: Tests) -> None:
     tests.check("another status", place.run("build", "x").status == 77)
 
 
+# ---- The allocator ----------------------------------------------------------------------------
+
+LOADER = "/lib64/ld-linux-x86-64.so.2"
+TUNED = ("hugetlb", "top_pad", "trim_threshold", "mmap_threshold", "tcache_count")
+
+
+def settings_of(text: str) -> dict[str, str]:
+    """The settings of the allocator by their names."""
+    found = re.findall(r"glibc\.malloc\.([a-z_]+)=([1-9][0-9]*)(?::|$)", text)
+    return dict(found) if ":".join(f"glibc.malloc.{a}={b}" for a, b in found) == text else {}
+
+
+def try_allocator(tests: Tests) -> None:
+    """The program gets settings of its allocator; a user's own are handed on as they are."""
+    place = tests.place(False)
+    place.script('echo "${GLIBC_TUNABLES-none}"; echo "$OTHER"')
+    plain = {**os.environ, "OTHER": "kept  as it is"}
+    plain.pop("GLIBC_TUNABLES", None)
+    for before in ((), ("--time",), ("--quiet",), ("--quiet", "--time")):
+        for action in ("build", "check", "eval"):
+            ran = place.run(*before, action, "x", env=plain)
+            given, _, other = ran.printed.partition("\n")
+            tests.check(f"settings {before} {action}", tuple(settings_of(given)) == TUNED, ran)
+            tests.check(f"other variables {before} {action}", other == "kept  as it is\n", ran)
+        for own in ("glibc.malloc.perturb=1", ""):
+            ran = place.run(*before, "build", "x", env={**plain, "GLIBC_TUNABLES": own})
+            tests.check(f"own settings {before} {own!r}",
+                        ran.printed == f"{own}\nkept  as it is\n", ran)
+        ran = run_limited(place, before, plain)
+        tests.check(f"limited address space {before}",
+                    ran.printed == "none\nkept  as it is\n", ran)
+    try_tunables(tests, place, plain)
+
+
+def run_limited(place: Place, before: tuple[str, ...], variables: dict[str, str]) -> Ran:
+    """Runs the launcher with a limit of the address space, which is large enough."""
+    limits = resource.getrlimit(resource.RLIMIT_AS)
+    resource.setrlimit(resource.RLIMIT_AS, (8 << 30, limits[1]))
+    try:
+        return place.run(*before, "build", "x", env=variables)
+    finally:
+        resource.setrlimit(resource.RLIMIT_AS, limits)
+
+
+def try_tunables(tests: Tests, place: Place, plain: dict[str, str]) -> None:
+    """The C library takes each of the settings, where it tells of them."""
+    place.script(f'echo "$GLIBC_TUNABLES"; exec {LOADER} --list-tunables')
+    ran = place.run("--quiet", "build", "x", env=plain)
+    if ran.status:
+        print(f"passed over: {LOADER} lists no settings")
+        return
+    given, _, listed = ran.printed.partition("\n")
+    for name, value in settings_of(given).items():
+        line = f"glibc.malloc.{name}: {int(value):#x} "
+        tests.check(f"setting {name}", line in listed, (value, listed))
+
+
 # ---- Terminals and signals --------------------------------------------------------------------
 
 
@@ -618,7 +676,8 @@ def try_pages(tests: Tests) -> None:
 
 PARTS = (try_words, try_random_words, try_not_found, try_places, try_not_json, try_store_faults,
          try_full_disk, try_limits, try_circle,
-         try_text, try_output_faults, try_end_by_signal, try_progress, try_interrupts,
+         try_text, try_output_faults, try_end_by_signal, try_allocator, try_progress,
+         try_interrupts,
          try_without_kit, try_builds,
          try_unproved, try_pages)
 

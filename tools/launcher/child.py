@@ -6,6 +6,8 @@ import signal
 import sys
 import time
 
+import allocator
+
 # The status of the program where all was done, and its text could not be printed.
 NOT_PRINTED = 6
 
@@ -106,8 +108,9 @@ def relay(source: int, ended: Ended, progress: Progress) -> None:
 def started(program: str, words: list[str], output: int | None) -> int:
     """Starts the program with these words, with `output` as its standard output."""
     actions = [] if output is None else [(os.POSIX_SPAWN_DUP2, output, 1)]
-    return os.posix_spawn(program, [program, *words], os.environ, file_actions=actions,
-                          setsigmask=(), setsigdef=[signal.SIGINT, signal.SIGPIPE])
+    return os.posix_spawn(program, [program, *words], allocator.environment(),
+                          file_actions=actions, setsigmask=(),
+                          setsigdef=[signal.SIGINT, signal.SIGPIPE])
 
 
 def pass_signals_on(number: int) -> None:
