@@ -443,20 +443,22 @@ def try_allocator(tests: Tests) -> None:
             ran = place.run(*before, "build", "x", env={**plain, "GLIBC_TUNABLES": own})
             tests.check(f"own settings {before} {own!r}",
                         ran.printed == f"{own}\nkept  as it is\n", ran)
-        ran = run_limited(place, before, plain)
-        tests.check(f"limited address space {before}",
-                    ran.printed == "none\nkept  as it is\n", ran)
+        for limit in (resource.RLIMIT_AS, resource.RLIMIT_DATA):
+            ran = run_limited(place, before, plain, limit)
+            tests.check(f"limited memory {before} {limit}",
+                        ran.printed == "none\nkept  as it is\n", ran)
     try_tunables(tests, place, plain)
 
 
-def run_limited(place: Place, before: tuple[str, ...], variables: dict[str, str]) -> Ran:
-    """Runs the launcher with a limit of the address space, which is large enough."""
-    limits = resource.getrlimit(resource.RLIMIT_AS)
-    resource.setrlimit(resource.RLIMIT_AS, (8 << 30, limits[1]))
+def run_limited(place: Place, before: tuple[str, ...], variables: dict[str, str],
+                limit: int) -> Ran:
+    """Runs the launcher with a limit of memory, which is large enough."""
+    limits = resource.getrlimit(limit)
+    resource.setrlimit(limit, (8 << 30, limits[1]))
     try:
         return place.run(*before, "build", "x", env=variables)
     finally:
-        resource.setrlimit(resource.RLIMIT_AS, limits)
+        resource.setrlimit(limit, limits)
 
 
 def try_tunables(tests: Tests, place: Place, plain: dict[str, str]) -> None:

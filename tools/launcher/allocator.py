@@ -17,10 +17,13 @@ SETTINGS = ":".join((
     "glibc.malloc.tcache_count=100",
 ))
 
+# The limits of a process that large steps may pass.
+LIMITS = (resource.RLIMIT_AS, resource.RLIMIT_DATA)
+
 
 def environment() -> dict[str, str]:
-    """The environment for the program; a user's own settings stand, also empty ones. Where the
-    address space is limited there are none, since large steps would pass the limit earlier."""
-    if resource.getrlimit(resource.RLIMIT_AS)[0] != resource.RLIM_INFINITY:
+    """The environment for the program; a user's own settings stand, also empty ones. Where memory
+    is limited there are none, since large steps would pass the limit earlier."""
+    if any(resource.getrlimit(limit)[0] != resource.RLIM_INFINITY for limit in LIMITS):
         return dict(os.environ)
     return {VARIABLE: SETTINGS, **os.environ}
