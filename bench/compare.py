@@ -116,7 +116,10 @@ def environment(is_plain: bool) -> dict[str, str]:
 
 def started(is_plain: bool) -> str:
     """How msb is started, in words."""
-    return f"msb {'without the' if is_plain else 'with the'} settings of the launcher"
+    settings = environment(is_plain).get(allocator.VARIABLE, "")
+    if settings == allocator.SETTINGS:
+        return "msb with the settings of the launcher"
+    return f"msb with {allocator.VARIABLE}={settings}" if settings else "msb without settings"
 
 
 def programs(words: argparse.Namespace) -> list[Program]:

@@ -418,6 +418,7 @@ def try_end_by_signal(tests: Tests) -> None:
 # ---- The allocator ----------------------------------------------------------------------------
 
 LOADER = "/lib64/ld-linux-x86-64.so.2"
+LIMITS = (resource.RLIMIT_AS, resource.RLIMIT_DATA)
 TUNED = ("hugetlb", "top_pad", "trim_threshold", "mmap_threshold", "tcache_count")
 
 
@@ -429,6 +430,9 @@ def settings_of(text: str) -> dict[str, str]:
 
 def try_allocator(tests: Tests) -> None:
     """The program gets settings of its allocator; a user's own are handed on as they are."""
+    if any(resource.getrlimit(limit)[0] != resource.RLIM_INFINITY for limit in LIMITS):
+        print("passed over: the allocator, since memory is limited here")
+        return
     place = tests.place(False)
     place.script('echo "${GLIBC_TUNABLES-none}"; echo "$OTHER"')
     plain = {**os.environ, "OTHER": "kept  as it is"}
@@ -443,7 +447,7 @@ def try_allocator(tests: Tests) -> None:
             ran = place.run(*before, "build", "x", env={**plain, "GLIBC_TUNABLES": own})
             tests.check(f"own settings {before} {own!r}",
                         ran.printed == f"{own}\nkept  as it is\n", ran)
-        for limit in (resource.RLIMIT_AS, resource.RLIMIT_DATA):
+        for limit in LIMITS:
             ran = run_limited(place, before, plain, limit)
             tests.check(f"limited memory {before} {limit}",
                         ran.printed == "none\nkept  as it is\n", ran)
@@ -677,11 +681,9 @@ def try_pages(tests: Tests) -> None:
 
 
 PARTS = (try_words, try_random_words, try_not_found, try_places, try_not_json, try_store_faults,
-         try_full_disk, try_limits, try_circle,
-         try_text, try_output_faults, try_end_by_signal, try_allocator, try_progress,
-         try_interrupts,
-         try_without_kit, try_builds,
-         try_unproved, try_pages)
+         try_full_disk, try_limits, try_circle, try_text, try_output_faults, try_end_by_signal,
+         try_allocator, try_progress, try_interrupts, try_without_kit, try_builds, try_unproved,
+         try_pages)
 
 
 def main() -> int:

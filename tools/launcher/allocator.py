@@ -21,9 +21,14 @@ SETTINGS = ":".join((
 LIMITS = (resource.RLIMIT_AS, resource.RLIMIT_DATA)
 
 
+def added() -> dict[str, str]:
+    """What the environment of the program has beside this one. A user's own settings stand, also
+    empty ones. Where memory is limited there are none, since large steps would pass the limit
+    earlier."""
+    limited = any(resource.getrlimit(limit)[0] != resource.RLIM_INFINITY for limit in LIMITS)
+    return {} if VARIABLE in os.environ or limited else {VARIABLE: SETTINGS}
+
+
 def environment() -> dict[str, str]:
-    """The environment for the program; a user's own settings stand, also empty ones. Where memory
-    is limited there are none, since large steps would pass the limit earlier."""
-    if any(resource.getrlimit(limit)[0] != resource.RLIM_INFINITY for limit in LIMITS):
-        return dict(os.environ)
-    return {VARIABLE: SETTINGS, **os.environ}
+    """The environment for the program."""
+    return {**os.environ, **added()}
