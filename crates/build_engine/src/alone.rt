@@ -17,9 +17,9 @@ use std::mem;
 
 /// Builds the request of a walk that had no answer yet, on one node, and tells what the build
 /// prints and writes. The build's history takes the least ready request each time, and the tools at
-/// the place are used as it has it; after want of memory their uses begin with those of before. What
-/// the build has made is not given back piece by piece, which would take a tenth of its time: the
-/// process keeps it. (MSBuild command-line reference, -maxCpuCount.)
+/// the place are used as it has it; after want of memory their uses begin with those of before.
+/// What the build has made is not given back piece by piece, which would take a tenth of its time:
+/// the process keeps it. (MSBuild command-line reference, -maxCpuCount.)
 pub fn build_on_one<W: Walker>(
     alloc: Global,
     key: RequestKey,

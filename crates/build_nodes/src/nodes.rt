@@ -350,8 +350,8 @@ where
     all
 }
 
-/// Joins the seat of a node that has left. Its place is not given back piece by piece, as nothing is
-/// that a build has made.
+/// Joins the seat of a node that has left. Its place is not given back piece by piece, as nothing
+/// is that a build has made.
 fn join_one<W: Walker + Send>(board: &Board<Shared<W>>, seat: &mut Seat<Shared<W>>, node: Node<W>)
 where
     W::Place: Send + Drop,

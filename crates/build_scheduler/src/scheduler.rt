@@ -150,8 +150,8 @@ impl<W: Walker> Core<W> {
         self.ready.least()
     }
 
-    /// A request that is ready, if one is: the one that became ready last, or the least, where those
-    /// that are left are held back. (Building projects in parallel.)
+    /// A request that is ready, if one is: the one that became ready last, or the least, where
+    /// those that are left are held back. (Building projects in parallel.)
     pub fn next_ready(&mut self) -> Option<u64>
         ensures world { W.world_of self.new.world ≡ W.world_of self.old.world }
         ensures history { self.new.history.events ≡ self.old.history.events }

@@ -1,8 +1,8 @@
 //! Stores of files and sinks of bytes, those in memory, and the tree that is loaded from a store.
 //!
 //! These are the only ways to the outside. Each counts its own faults, so that a caller can tell a
-//! failed call from a wrong answer. One in memory also tells what it holds; a real one, of the crate
-//! `host_files`, tells nothing.
+//! failed call from a wrong answer. One in memory also tells what it holds; a real one, of the
+//! crate `host_files`, tells nothing.
 #![tactic(auto)]
 
 mod committing;
@@ -16,7 +16,7 @@ mod store;
 mod tree;
 
 pub use committing::{CommitFault, commit};
-pub use limits::check_limits;
+pub use limits::{MOST_BYTES, MOST_FILE_BYTES, MOST_FILES, check_limits};
 pub use loading::{LoadFault, load};
 pub use memory::MemStore;
 pub use memory_sink::MemSink;

@@ -7,13 +7,13 @@ use msb_values::Copied;
 use std::alloc::Global;
 
 /// How many files a listing may have.
-const MOST_FILES: usize = 20_000;
+pub const MOST_FILES: usize = 20_000;
 
 /// How many bytes all files may have together: 256 MiB.
-const MOST_BYTES: u128 = 268_435_456;
+pub const MOST_BYTES: u64 = 268_435_456;
 
 /// How many bytes one file may have: 16 MiB.
-const MOST_FILE_BYTES: u64 = 16_777_216;
+pub const MOST_FILE_BYTES: u64 = 16_777_216;
 
 /// Refuses a listing that passes a limit. The number of files is looked at first, then their bytes
 /// in all, and then each entry in order.
@@ -24,7 +24,7 @@ pub fn check_limits(alloc: Global, entries: &[Entry]) -> Result<(), LoadFault>
         return Err(LoadFault::Files(entries.len() as u64));
     }
     let total = total_size(entries);
-    if total > MOST_BYTES {
+    if total > u128::from(MOST_BYTES) {
         return Err(LoadFault::Bytes(total));
     }
     check_entries(alloc, entries)

@@ -60,11 +60,20 @@ impl<'a, R: Files> DirStore<'a, R> {
         }
     }
 
-    // Lists the folder in this thread.
+    // Lists the folder in this thread. Where there is no memory for the bytes of its files, it is
+    // listed without them, so that a folder that is too large for a load is told as that.
     fn list_alone(&self, alloc: Global) -> io::Result<Listed> {
+        match self.list_within(alloc, &Budget::of_a_load()) {
+            Err(error) if error.kind() == ErrorKind::OutOfMemory => {
+                self.list_within(alloc, &Budget::spent())
+            }
+            listed => listed,
+        }
+    }
+
+    fn list_within(&self, alloc: Global, budget: &Budget) -> io::Result<Listed> {
         let place = self.place(alloc);
-        let budget = Budget::new();
-        let look = |paths: &[String]| look_below(&place, &budget, paths, usize::MAX);
+        let look = |paths: &[String]| look_below(&place, budget, paths, usize::MAX);
         Listed::of(&place, &look)
     }
 
@@ -148,7 +157,7 @@ impl<'a, R: Files + Threads + Sync> DirStore<'a, R> {
         R::Dir: Send,
     {
         let place = self.place(alloc);
-        let budget = Budget::new();
+        let budget = Budget::of_a_load();
         let look = |paths: &[String]| look_in_threads(&place, &budget, paths, threads);
         Listed::of(&place, &look)
     }

@@ -1,30 +1,13 @@
 //! The listing of a real folder. No contract says what a folder holds, so all here that has no
 //! clause is trusted.
-ghost use Rattle.std.specs.Prelude.{
-  ◌≡◌,
-  ◌<ℤ◌,
-  ◌+◌,
-  ◌*◌,
-  ◌^◌,
-  ◌-◌,
-  ℕ,
-  pos,
-  min,
-  length,
-  slice_get,
-  true,
-  IfOk,
-  IfSome,
-};
-ghost use Rattle.file_store.specs.Entries.{are_listed_in_order};
-ghost use Rattle.file_store.specs.Paths.{is_before};
+ghost use Rattle.std.specs.Prelude.{◌≡◌, ◌<ℤ◌, ◌+◌, ◌*◌, ◌^◌, ◌-◌, ℕ, pos, min};
 
 use crate::place::{Place, is_gone, join};
 use crate::reading::{Budget, ReadFile, read_file};
 use crate::sharing::in_stretches;
 use crate::writing::NEW;
 use file_store::Entry;
-use msb_values::{List, Text};
+use msb_values::Text;
 use std::alloc::{AllocError, Global};
 use std::fs::Metadata;
 use std::io::{ErrorKind, Read};
@@ -293,30 +276,6 @@ fn entry_of(path: String, data: &Metadata) -> Entry {
         path: Text::from(path),
         size: data.len(),
         stamp: stamp_of(data.mtime(), nanoseconds),
-    }
-}
-
-/// Files that are sorted by their paths, as a listing: of those at one path the first.
-pub(crate) fn in_order(alloc: Global, files: Vec<Entry>) -> Result<List<Entry>, AllocError>
-    ensures { IfOk result (λ l. are_listed_in_order l ≡ true) }
-{
-    let mut entries = Vec::with_capacity(alloc, files.len())?;
-    for file in files {
-        if is_later(&entries, &file) {
-            entries.push(file)?;
-        }
-    }
-    Ok(List::from(entries))
-}
-
-// Whether the file stands behind the last one.
-fn is_later(entries: &[Entry], file: &Entry) -> bool
-    ensures { result ≡ true → IfSome (slice_get entries.now (length entries.now - 1))
-        (λ last. is_before last.path file.now.path ≡ true) }
-{
-    match entries.last() {
-        Some(last) => last.path < file.path,
-        None => true,
     }
 }
 

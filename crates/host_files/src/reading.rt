@@ -1,16 +1,11 @@
 //! The bytes of the files of a real folder. No contract says what a folder holds, so all here is
 //! trusted.
 use crate::place::Place;
+use file_store::{MOST_BYTES, MOST_FILE_BYTES, MOST_FILES};
 use std::io::Read;
 use std::rt::Files;
-use std::sync::atomic::{AtomicUsize, Ordering};
+use std::sync::atomic::{AtomicU64, AtomicUsize, Ordering};
 use std::{fs, io};
-
-/// So many files are read with a listing: no load takes more.
-const MOST_FILES: usize = 20_000;
-
-/// So many bytes are read with a listing, 256 MiB: no load takes more.
-const MOST_BYTES: usize = 268_435_456;
 
 /// A file that was read with a listing: its path, and its bytes.
 #[derive(Drop)]
@@ -19,29 +14,41 @@ pub(crate) struct ReadFile {
     pub(crate) bytes: Vec<u8>,
 }
 
-/// How much is read with a listing, by all threads together.
+/// How much is read with a listing, by all threads together: what a load takes. Once a limit of a
+/// load is passed, so that it refuses the folder, nothing more is read.
 #[derive(Drop)]
 pub(crate) struct Budget {
     files: AtomicUsize,
-    bytes: AtomicUsize,
+    bytes: AtomicU64,
 }
 
 impl Budget {
-    pub(crate) fn new() -> Budget {
+    pub(crate) fn of_a_load() -> Budget {
         Budget {
             files: AtomicUsize::new(0),
-            bytes: AtomicUsize::new(0),
+            bytes: AtomicU64::new(0),
         }
     }
 
-    /// Whether a file of this size may be read as well, which counts it.
-    pub(crate) fn allows(&self, size: u64) -> bool {
-        let size = size as usize;
-        if size > MOST_BYTES || self.files.fetch_add(1, Ordering::SeqCst) >= MOST_FILES {
-            return false;
+    /// By this one nothing is read.
+    pub(crate) fn spent() -> Budget {
+        Budget {
+            files: AtomicUsize::new(MOST_FILES),
+            bytes: AtomicU64::new(0),
         }
-        let before = self.bytes.fetch_add(size, Ordering::SeqCst);
-        before <= MOST_BYTES - size
+    }
+
+    /// Whether a file of this size may be read as well, which counts it. One that is too large for
+    /// a load counts as more than all bytes.
+    pub(crate) fn allows(&self, size: u64) -> bool {
+        let size = if size > MOST_FILE_BYTES {
+            MOST_BYTES + 1
+        } else {
+            size
+        };
+        let files = self.files.fetch_add(1, Ordering::SeqCst);
+        let bytes = self.bytes.fetch_add(size, Ordering::SeqCst);
+        files < MOST_FILES && bytes.saturating_add(size) <= MOST_BYTES
     }
 }
 

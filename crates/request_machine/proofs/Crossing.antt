@@ -36,7 +36,7 @@ use Rattle.msb_values.specs.contracts.key.InstanceKeyEq.TheImpl as same
 use Rattle.once_table.proofs.Crossing.{table-send}
 use Rattle.once_table.specs.contracts.table.OnceTable as OnceTable
 use Rattle.msb_instance.specs.contracts.instances.InstanceRef as InstanceRef
-use Rattle.msb_instance.specs.contracts.instances.EvaluationFitsInstanceKeyInstanceRefFiles.TheImpl as fits
+use Rattle.msb_instance.specs.contracts.instances.EvaluationFitsInstanceKeyInstanceRefFiles as fits
 use Rattle.target_order.proofs.walk.OrderWalk.TheSendSync as order
 use Rattle.build_world.proofs.world.World.TheSendSync as world
 use Rattle.msb_files.proofs.journal.Journal.TheSendSync as journal
@@ -112,10 +112,10 @@ evaluation-send : IsSend Evaluation.the_row
 evaluation-send = search (owned, sendable) depth 20
 
 shared_instances-send : IsSend (OnceTable.the_row InstanceKey.the_row InstanceRef.the_row
-    (List.the_row File.the_row) Evaluation.the_row equal.ghosts hashed.ghosts fits.ghosts
+    (List.the_row File.the_row) Evaluation.the_row equal.ghosts hashed.ghosts fits.TheImpl.ghosts
     same.ghosts)
 shared_instances-send = table-send InstanceKey.the_row InstanceRef.the_row
-    (List.the_row File.the_row) Evaluation.the_row equal.ghosts hashed.ghosts fits.ghosts
+    (List.the_row File.the_row) Evaluation.the_row equal.ghosts hashed.ghosts fits.TheImpl.ghosts
     instance_key.the_send ref-send evaluation-send same.ghosts
 
 -- what a node has for its walks goes to its thread, where its tools may

@@ -70,8 +70,8 @@ fn first_missing(tree: &Tree, projects: &[Project]) -> Option<usize>
     projects.iter().position(|project| !is_there(tree, project))
 }
 
-/// The requests that the task calls: those of each project that is looked up and is there. Where all
-/// are known to be there, their files aren't looked up once more. (MSBuild task.)
+/// The requests that the task calls: those of each project that is looked up and is there. Where
+/// all are known to be there, their files aren't looked up once more. (MSBuild task.)
 pub(crate) fn all_calls(
     alloc: Global,
     tree: &Tree,

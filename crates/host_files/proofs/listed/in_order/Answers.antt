@@ -3,7 +3,7 @@ use Rattle.std.specs.List.{slice_get}
 use Rattle.file_store.specs.Entries.{are_listed_in_order}
 use Rattle.file_store.specs.Paths.{is_before}
 use Rattle.host_files.proofs.Rising.{rising_next}
-use Rattle.host_files.proofs.listing.in_order.Goals as goal
+use Rattle.host_files.proofs.listed.in_order.Goals as goal
 
 pub loop-file-preserved-in-Continue-branch-2 : goal.loop-file-preserved-in-Continue-branch-2
 loop-file-preserved-in-Continue-branch-2 c =
