@@ -16,6 +16,7 @@ use build_scheduler::{Core, End, Walker};
 use msb_values::{Act, List, NoMemory, Text8};
 use result_cache::{RequestResult, Table};
 use std::alloc::Global;
+use std::mem;
 
 /// What comes of a build. (MSBuild command-line reference.)
 pub struct Outcome {
@@ -73,7 +74,8 @@ impl Outcome {
         }
     }
 
-    // The outcome of a build whose root request is over, with this result.
+    // The outcome of a build whose root request is over, with this result. The journal is not given
+    // back piece by piece, as nothing is that a build has made.
     fn of_root(
         alloc: Global,
         table: &Table,
@@ -87,12 +89,14 @@ impl Outcome {
         ensures status { IfOk result (λ outcome. IsStatus outcome.status) }
     {
         let journal = replay_runs(alloc, table, root.runs.as_slice())?;
-        Ok(Outcome {
+        let outcome = Outcome {
             status: status_of(root.ok),
             text: show_build(alloc, root, &journal, low)?,
             commit: journal.commit_list(alloc)?,
             runs: runs_in(&journal),
-        })
+        };
+        mem::forget(journal);
+        Ok(outcome)
     }
 
     // The outcome of a build that was stopped: nothing is written or removed.

@@ -17,12 +17,14 @@ use msb_instance::Instances;
 use msb_values::NoMemory;
 use request_machine::{NodeContext, Walk, root_key};
 use std::alloc::Global;
+use std::mem;
 use std::sync::Wait;
 use std::thread::Threads;
 use task_trait::{Counted, CountedTools, Tools};
 
 /// Builds what is given on up to so many nodes, each in a thread of its own, as there is work for
-/// them. They share tools, which each of them counts by itself. One node needs no thread.
+/// them. They share tools, which each of them counts by itself. One node needs no thread. The world
+/// is not given back piece by piece: the process keeps it, with what the build has made.
 pub fn build_world_on<R: Threads + Wait + Sync, T: Tools + Sync>(
     rt: &R,
     alloc: Global,
@@ -40,11 +42,15 @@ pub fn build_world_on<R: Threads + Wait + Sync, T: Tools + Sync>(
     let (world, instances) = given.parts();
     if nodes == 1 {
         let mut own = Counted::new(alloc, tools)?;
-        return build_world_alone(alloc, low, &world, instances, &mut own);
+        let outcome = build_world_alone(alloc, low, &world, instances, &mut own);
+        mem::forget(world);
+        return outcome;
     }
     let mut counted = tools_for(alloc, nodes, tools)?;
     let contexts = contexts_of(alloc, &world, instances, &mut counted)?;
-    build_at_contexts(rt, alloc, low, &world, contexts)
+    let outcome = build_at_contexts(rt, alloc, low, &world, contexts);
+    mem::forget(world);
+    outcome
 }
 
 // Builds a world, on a node for each of these contexts.
