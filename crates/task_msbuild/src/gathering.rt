@@ -32,7 +32,7 @@ pub fn gather(
     requires { length results.now ≤ length plan.now.calls }
     ensures { IfOk result (λ output. output ≡ gathered plan.now results.now) }
 {
-    let calls = plan.calls.as_slice();
+    let calls = plan.calls.get().as_slice();
     let results = results.as_slice();
     Ok(TaskOutput {
         ok: plan.ok && all_succeeded(results),
@@ -67,7 +67,7 @@ fn all_notes(alloc: Global, plan: &Plan, results: &[RequestResult]) -> Result<Li
     ensures { IfOk result (λ notes. notes ≡ (gathered plan.now results.now).notes) }
 {
     let mut notes = plan.notes.copy()?;
-    notes.append(failures(alloc, plan.calls.as_slice(), results)?)?;
+    notes.append(failures(alloc, plan.calls.get().as_slice(), results)?)?;
     Ok(notes)
 }
 

@@ -12,7 +12,7 @@ use crate::calls::{all_calls, is_there, look_up};
 use crate::parameters::Parameters;
 use crate::project::Project;
 use file_store::Tree;
-use msb_values::{Copied, List, NoMemory, Note, Pairs};
+use msb_values::{Copied, List, NoMemory, Note, Pairs, Shared};
 use std::alloc::Global;
 use task_trait::{Failure, ToolInput};
 
@@ -55,8 +55,9 @@ fn plan_calls(
 {
     let notes = missing_notes(alloc, tree, parameters)?;
     let all_there = are_all_there(&notes, parameters);
+    let calls = all_calls(alloc, tree, globals, parameters, all_there)?;
     Ok(Plan {
-        calls: all_calls(alloc, tree, globals, parameters, all_there)?,
+        calls: Shared::new(alloc, calls)?,
         parallel: parameters.parallel,
         stop_first: parameters.stop_first && !parameters.parallel,
         ok: notes.is_empty(),
@@ -77,7 +78,7 @@ fn refuse(alloc: Global, failure: &Failure) -> Result<Plan, NoMemory>
     let mut notes = List::new(alloc);
     notes.push(failure.note(alloc, TASK)?)?;
     Ok(Plan {
-        calls: List::new(alloc),
+        calls: Shared::new(alloc, List::new(alloc))?,
         parallel: false,
         stop_first: false,
         notes,

@@ -1,13 +1,13 @@
 ghost use Rattle.std.specs.Prelude.{◌≡◌, not, drop, take};
 ghost use Rattle.std.specs.List.{list_any};
 
-use msb_values::{List, Note};
+use msb_values::{List, Note, Shared};
 use result_cache::{RequestKey, RequestResult};
 
 /// What the MSBuild task is to do. (MSBuild task.)
 pub struct Plan {
-    /// The requests that it calls, in order.
-    pub calls: List<RequestKey>,
+    /// The requests that it calls, in order; they may be many, and copies of the plan share them.
+    pub calls: Shared<List<RequestKey>>,
     /// Whether they are called at once.
     pub parallel: bool,
     /// Whether no call is made behind one that fails; never where they are called at once.
@@ -53,7 +53,7 @@ impl Plan {
     fn waiting(&self, answered: usize) -> &[RequestKey]
         ensures { result.now ≡ drop answered self.now.calls }
     {
-        let calls = self.calls.as_slice();
+        let calls = self.calls.get().as_slice();
         if answered < calls.len() {
             &calls[answered..]
         } else {
