@@ -51,10 +51,10 @@ fn in_order(
         if !is_later(&entries, &entry) {
             continue;
         }
-        entries.push(entry)?;
         if let Some(file) = read {
             all_read.push(file)?;
         }
+        entries.push(entry)?;
     }
     Ok((List::from(entries), all_read))
 }
