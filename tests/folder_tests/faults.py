@@ -1,5 +1,6 @@
 """Faults of the folder, of standard output and of the words: status, text, and what is left."""
 import os
+import resource
 import threading
 from collections.abc import Callable
 from pathlib import Path
@@ -117,6 +118,21 @@ def words_that_are_no_text(place: Place) -> None:
     expect("an output is there", place.path("out").exists(), False)
 
 
+# More files than a build takes, whose bytes are more than the memory of the run.
+TOO_MANY = 20_001
+LITTLE = 32 * 1024 * 1024
+
+
+def folder_that_is_too_large_for_the_memory(place: Place) -> None:
+    """It is told as too large: that needs the listing alone."""
+    make_sources(place, {"a": SOURCE})
+    for number in range(TOO_MANY):
+        place.write(f"more/{number % 100}/{number}", b"x" * 4096)
+    limits = (LITTLE, LITTLE)
+    little = {"preexec_fn": lambda: resource.setrlimit(resource.RLIMIT_DATA, limits)}
+    place.fails(8, f"too large: {TOO_MANY + 2} files\n", **little)
+
+
 CHURNED = 100
 RUNS = 25
 
@@ -176,5 +192,6 @@ TESTS: list[Callable[[Place], None]] = [
     full_standard_output,
     closed_standard_output,
     words_that_are_no_text,
+    folder_that_is_too_large_for_the_memory,
     names_that_vanish,
 ]
