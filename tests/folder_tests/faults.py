@@ -124,7 +124,7 @@ LITTLE = 32 * 1024 * 1024
 
 
 def folder_that_is_too_large_for_the_memory(place: Place) -> None:
-    """It is told as too large: that needs the listing alone."""
+    """One node tells it as too large: that needs the listing alone."""
     make_sources(place, {"a": SOURCE})
     for number in range(TOO_MANY):
         place.write(f"more/{number % 100}/{number}", b"x" * 4096)

@@ -75,7 +75,7 @@ impl Outcome {
     }
 
     // The outcome of a build whose root request is over, with this result. The journal is not given
-    // back piece by piece, as nothing is that a build has made.
+    // back piece by piece, which would take a part of the build's end: the process keeps it.
     fn of_root(
         alloc: Global,
         table: &Table,

@@ -22,7 +22,8 @@ use std::thread::Threads;
 /// Its files are the regular files in it and below, without links, each by its path from the
 /// folder, with `/` between names. A stamp is the time of the last change, in nanoseconds since
 /// 1970, and 0 for an earlier time. A listing reads the files as well, as long as they are within
-/// the limits of a load, so that what it lists can be read later, whatever has vanished since.
+/// the limits of a load and there is memory for their bytes, so that what it lists can be read
+/// later, whatever has vanished since.
 #[derive(Drop)]
 pub struct DirStore<'a, R: Files> {
     rt: &'a R,

@@ -22,7 +22,7 @@ pub(crate) struct Listed {
 }
 
 impl Listed {
-    /// Lists a folder. `look` looks at some paths, and may leave some of what is below. It reads
+    /// Lists a folder. `look` looks at some paths, and may leave some of what is below. It may read
     /// the files that it finds.
     pub(crate) fn of<R, F>(place: &Place<'_, R>, look: &F) -> io::Result<Listed>
     where

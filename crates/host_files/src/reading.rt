@@ -14,8 +14,8 @@ pub(crate) struct ReadFile {
     pub(crate) bytes: Vec<u8>,
 }
 
-/// How much is read with a listing, by all threads together: what a load takes. Once a limit of a
-/// load is passed, so that it refuses the folder, nothing more is read.
+/// How much is read with a listing, by all threads together: what a load takes. Once the files that
+/// were found pass one of its limits, nothing more is read.
 #[derive(Drop)]
 pub(crate) struct Budget {
     files: AtomicUsize,
@@ -46,9 +46,9 @@ impl Budget {
         } else {
             size
         };
-        let files = self.files.fetch_add(1, Ordering::SeqCst);
-        let bytes = self.bytes.fetch_add(size, Ordering::SeqCst);
-        files < MOST_FILES && bytes.saturating_add(size) <= MOST_BYTES
+        let files_before = self.files.fetch_add(1, Ordering::SeqCst);
+        let bytes_before = self.bytes.fetch_add(size, Ordering::SeqCst);
+        files_before < MOST_FILES && bytes_before.saturating_add(size) <= MOST_BYTES
     }
 }
 

@@ -24,7 +24,7 @@ use task_trait::{Counted, CountedTools, Tools};
 
 /// Builds what is given on up to so many nodes, each in a thread of its own, as there is work for
 /// them. They share tools, which each of them counts by itself. One node needs no thread. The world
-/// is not given back piece by piece: the process keeps it, with what the build has made.
+/// is not given back piece by piece, which one thread alone would have to do: the process keeps it.
 pub fn build_world_on<R: Threads + Wait + Sync, T: Tools + Sync>(
     rt: &R,
     alloc: Global,
